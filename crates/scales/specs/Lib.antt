@@ -1,0 +1,12 @@
+pub mod Stops
+pub mod Checks
+pub mod Laws
+pub mod Answers
+pub mod Models
+pub mod Readings
+pub mod Wholes
+pub mod Grades
+pub mod Windows
+pub mod Sides
+pub mod Choices
+pub mod Examples
