@@ -1,0 +1,4 @@
+pub mod Arrays
+pub mod Ranging
+pub mod Viewing
+pub mod Resolving

@@ -1,0 +1,5 @@
+pub mod Bounds
+pub mod Ranges
+pub mod Status
+pub mod Counts
+pub mod Views
