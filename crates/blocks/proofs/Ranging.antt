@@ -22,23 +22,28 @@ sides-apart s p t q e = let z : _≡_ {A = ℕ} 0 1 = cc in omega arith
 -- resolving, at each setting
 pub resolve-at : (s : ℕ) (a b : Ranges) (i : ℕ)
     → ((i ≡ s) × (resolve s a b .low i ≡ min (a .low i) (b .low i)) × (resolve s a b .high i ≡ max (a .high i) (b .high i)))
-      ⊎ ((i ≢ s) × (resolve s a b .low i ≡ max (a .low i) (b .low i)) × (resolve s a b .high i ≡ min (a .high i) (b .high i)))
-resolve-at s a b i = elim (cases-eq i s)
-    [ inl e ↦ inl (e, rw (eq-eqb i s e), rw (eq-eqb i s e))
-    | inr n ↦ inr (n, rw (ne-eqb i s n), rw (ne-eqb i s n)) ]
+    ⊎ ((i ≢ s) × (resolve s a b .low i ≡ max (a .low i) (b .low i)) × (resolve s a b .high i ≡ min (a .high i) (b .high i)))
+resolve-at s a b i = elim (cases-eq i s) [
+  | inl e ↦ inl (e, rw (eq-eqb i s e), rw (eq-eqb i s e))
+  | inr n ↦ inr (n, rw (ne-eqb i s n), rw (ne-eqb i s n))
+]
 
 -- every profile in the resolved block is in one of the two
 pub resolve-in : (s : ℕ) (a b : Ranges) → Resolvable s a b → (x : Profile) → In (resolve s a b) x → In a x ⊎ In b x
-resolve-in s a b ok x h = elim (cases-lt (x s) (a .low s))
-    [ inl p ↦ inr (inB (inl p))
-    | inr p ↦ elim (cases-lt (a .high s) (x s)) [ inl q ↦ inr (inB (inr q)) | inr q ↦ inl (inA (p, q)) ] ]
+resolve-in s a b ok x h = elim (cases-lt (x s) (a .low s)) [
+  | inl p ↦ inr (inB (inl p))
+  | inr p ↦ elim (cases-lt (a .high s) (x s)) [ inl q ↦ inr (inB (inr q)) | inr q ↦ inl (inA (p, q)) ]
+]
   where
     both : (i : ℕ) → i ≢ s → ((a .low i ≤ x i) × (x i ≤ a .high i)) × ((b .low i ≤ x i) × (x i ≤ b .high i))
     both i n = let r = resolve-at s a b i in let k = h i in omega arith
+
     mid : (min (a .low s) (b .low s) ≤ x s) × (x s ≤ max (a .high s) (b .high s))
     mid = let r = resolve-at s a b s in let k = h s in omega arith
+
     inA : (a .low s ≤ x s) × (x s ≤ a .high s) → In a x
     inA p = by-setting (λ i. (a .low i ≤ x i) × (x i ≤ a .high i)) s p (λ i n. both i n .0)
+
     inB : (x s < a .low s) ⊎ (a .high s < x s) → In b x
     inB p = by-setting (λ i. (b .low i ≤ x i) × (x i ≤ b .high i)) s (let m = mid in let j = ok .joins in omega arith) (λ i n. both i n .1)
 
@@ -76,6 +81,7 @@ module _ (last : ℕ → ℕ) (g : Ranges) (st : Stands last g) where
       numbers : (β : Bound) → ¬ TrueAt g β → ¬ FalseAt g β → OpenAt g β
       numbers (AtMost s p) t f = omega arith
       numbers (AtLeast s p) t f = omega arith
+
       apart : (β : Bound) → OpenAt g β → (¬ TrueAt g β) × (¬ FalseAt g β)
       apart (AtMost s p) o = omega arith
       apart (AtLeast s p) o = omega arith
@@ -89,9 +95,10 @@ module _ (last : ℕ → ℕ) (g : Ranges) (st : Stands last g) where
       go (suc p) e = false-at (AtMost i p) .0 (h p e)
 
   pub high-held : (b : Ranges) (i : ℕ) → (b .high i < last i → False g (AtLeast i (suc (b .high i)))) → g .high i ≤ b .high i
-  high-held b i h = elim (cases-lt (b .high i) (last i))
-      [ inl l ↦ let k = false-at (AtLeast i (suc (b .high i))) .0 (h l) in omega arith
-      | inr l ↦ let k = st i in omega arith ]
+  high-held b i h = elim (cases-lt (b .high i) (last i)) [
+    | inl l ↦ let k = false-at (AtLeast i (suc (b .high i))) .0 (h l) in omega arith
+    | inr l ↦ let k = st i in omega arith
+  ]
 
   -- broken: the region is inside the block
   pub broken-inside : (b : Ranges) → Broken last g b → Inside g b
@@ -103,7 +110,7 @@ module _ (last : ℕ → ℕ) (g : Ranges) (st : Stands last g) where
 
   -- dead: no profile is in both
   pub dead-apart : (b : Ranges) → Dead last g b → (x : Profile) → In g x → ¬ In b x
-  dead-apart b (β , e , t) x h k = go β e (t x h)
+  dead-apart b (β, e, t) x h k = go β e (t x h)
     where
       go : (β : Bound) → BoundOf last b β → Meets x β → ⊥
       go (AtMost s p) e m = let j = k s in omega arith
@@ -120,8 +127,10 @@ module _ (last : ℕ → ℕ) (g : Ranges) (st : Stands last g) where
     where
       low : (β : Bound) → ((γ : Bound) → BoundOf last b γ → γ ≢ β → False g γ) → (i : ℕ) → ((p : ℕ) → AtMost i p ≢ β) → b .low i ≤ g .low i
       low β o i n = low-held last g st b i (λ p e. o (AtMost i p) e (n p))
+
       high : (β : Bound) → ((γ : Bound) → BoundOf last b γ → γ ≢ β → False g γ) → (i : ℕ) → ((p : ℕ) → AtLeast i p ≢ β) → g .high i ≤ b .high i
       high β o i n = high-held last g st b i (λ l. o (AtLeast i (suc (b .high i))) (refl, l) (n (suc (b .high i))))
+
       go : (β : Bound) → BoundOf last b β → ((γ : Bound) → BoundOf last b γ → γ ≢ β → False g γ) → Covers g b β
       go (AtMost s p) e o = (e, high (AtMost s p) o s (λ q k. sides-apart s p s q (sym k)), λ i n. (low (AtMost s p) o i (λ q k. n (ap setting k)), high (AtMost s p) o i (λ q k. n (ap setting k))))
       go (AtLeast s p) e o = (e .0, low (AtLeast s p) o s (λ q. sides-apart s q s p), λ i n. (low (AtLeast s p) o i (λ q k. n (ap setting k)), high (AtLeast s p) o i (λ q k. n (ap setting k))))
@@ -158,10 +167,10 @@ narrow-inside g (AtLeast s p) i = let k = narrow-low g s p i in omega arith
 pub narrow-stands : (last : ℕ → ℕ) (g : Ranges) (β : Bound) → Stands last g → OpenAt g β → Stands last (narrow β g)
 narrow-stands last g (AtMost s p) st o =
     by-setting (λ i. (g .low i ≤ narrow (AtMost s p) g .high i) × (narrow (AtMost s p) g .high i ≤ last i)) s
-      (let k = narrow-high g s p s in let j = st s in omega arith) (λ i n. let k = narrow-high g s p i in let j = st i in omega arith)
+    (let k = narrow-high g s p s in let j = st s in omega arith) (λ i n. let k = narrow-high g s p i in let j = st i in omega arith)
 narrow-stands last g (AtLeast s p) st o =
     by-setting (λ i. (narrow (AtLeast s p) g .low i ≤ g .high i) × (g .high i ≤ last i)) s
-      (let k = narrow-low g s p s in let j = st s in omega arith) (λ i n. let k = narrow-low g s p i in let j = st i in omega arith)
+    (let k = narrow-low g s p s in let j = st s in omega arith) (λ i n. let k = narrow-low g s p i in let j = st i in omega arith)
 
 pub narrow-true : (g : Ranges) (β : Bound) → TrueAt (narrow β g) β
 narrow-true g (AtMost s p) = let k = narrow-high g s p s in omega arith
@@ -183,16 +192,18 @@ resolve-stands last s a b sa sb ok = by-setting (λ i. (resolve s a b .low i ≤
 module _ (last : ℕ → ℕ) (g w : Ranges) (st : Stands last g) where
   pub undo-forced : (b : Ranges) (β : Bound) → OpenAt g β → Covers g b β → Inside (narrow β g) w
       → Resolvable (setting β) w b × Inside g (resolve (setting β) w b)
-  undo-forced b (AtMost s p) o c h =
-      (record { joins = let k = narrow-high g s p s in let j = st s in let m = h s in omega arith; others = λ i n. let k = narrow-high g s p i in let j = st i in let m = h i in let q = c .2 i n in omega arith }
-      , by-setting (λ i. (resolve s w b .low i ≤ g .low i) × (g .high i ≤ resolve s w b .high i)) s
-          (let r = resolve-at s w b s in let k = narrow-high g s p s in let j = st s in let m = h s in omega arith)
-          (λ i n. let r = resolve-at s w b i in let k = narrow-high g s p i in let m = h i in let q = c .2 i n in omega arith))
-  undo-forced b (AtLeast s p) o c h =
-      (record { joins = let k = narrow-low g s p s in let j = st s in let m = h s in omega arith; others = λ i n. let k = narrow-low g s p i in let j = st i in let m = h i in let q = c .2 i n in omega arith }
-      , by-setting (λ i. (resolve s w b .low i ≤ g .low i) × (g .high i ≤ resolve s w b .high i)) s
-          (let r = resolve-at s w b s in let k = narrow-low g s p s in let j = st s in let m = h s in omega arith)
-          (λ i n. let r = resolve-at s w b i in let k = narrow-low g s p i in let m = h i in let q = c .2 i n in omega arith))
+  undo-forced b (AtMost s p) o c h = (
+    record { joins = let k = narrow-high g s p s in let j = st s in let m = h s in omega arith; others = λ i n. let k = narrow-high g s p i in let j = st i in let m = h i in let q = c .2 i n in omega arith },
+    by-setting (λ i. (resolve s w b .low i ≤ g .low i) × (g .high i ≤ resolve s w b .high i)) s
+        (let r = resolve-at s w b s in let k = narrow-high g s p s in let j = st s in let m = h s in omega arith)
+        (λ i n. let r = resolve-at s w b i in let k = narrow-high g s p i in let m = h i in let q = c .2 i n in omega arith),
+  )
+  undo-forced b (AtLeast s p) o c h = (
+    record { joins = let k = narrow-low g s p s in let j = st s in let m = h s in omega arith; others = λ i n. let k = narrow-low g s p i in let j = st i in let m = h i in let q = c .2 i n in omega arith },
+    by-setting (λ i. (resolve s w b .low i ≤ g .low i) × (g .high i ≤ resolve s w b .high i)) s
+        (let r = resolve-at s w b s in let k = narrow-low g s p s in let j = st s in let m = h s in omega arith)
+        (λ i n. let r = resolve-at s w b i in let k = narrow-low g s p i in let m = h i in let q = c .2 i n in omega arith),
+  )
 
   -- at a needed decided entry the work block forces
   pub undo-decided : (β : Bound) → OpenAt g β → Inside (narrow β g) w → ¬ Inside g w → (γ : Bound) × OpenAt g γ × Covers g w γ
@@ -201,13 +212,15 @@ module _ (last : ℕ → ℕ) (g w : Ranges) (st : Stands last g) where
     where
       rest : (i : ℕ) → i ≢ s → (w .low i ≤ g .low i) × (g .high i ≤ w .high i)
       rest i n = let k = narrow-high g s p i in let m = h i in omega arith
+
       past : w .high s < g .high s
       past = elim (cases-lt (w .high s) (g .high s))
           [ inl l ↦ l | inr l ↦ absurd (out (by-setting (λ i. (w .low i ≤ g .low i) × (g .high i ≤ w .high i)) s (let m = h s in omega arith) rest)) ]
   undo-decided (AtLeast s p) o h out =
-      elim (cases-lt (g .low s) (w .low s))
-        [ inl l ↦ (AtMost s (pred (w .low s)), (let k = narrow-low g s p s in let m = h s in omega arith), (omega arith, (let m = h s in omega arith), rest))
-        | inr l ↦ absurd (out (by-setting (λ i. (w .low i ≤ g .low i) × (g .high i ≤ w .high i)) s (let m = h s in omega arith) rest)) ]
+      elim (cases-lt (g .low s) (w .low s)) [
+        | inl l ↦ (AtMost s (pred (w .low s)), (let k = narrow-low g s p s in let m = h s in omega arith), (omega arith, (let m = h s in omega arith), rest))
+        | inr l ↦ absurd (out (by-setting (λ i. (w .low i ≤ g .low i) × (g .high i ≤ w .high i)) s (let m = h s in omega arith) rest))
+      ]
     where
       rest : (i : ℕ) → i ≢ s → (w .low i ≤ g .low i) × (g .high i ≤ w .high i)
       rest i n = let k = narrow-low g s p i in let m = h i in omega arith
@@ -224,17 +237,20 @@ undo-narrow (AtLeast s p) g = same-block (with-end (AtLeast s p) (g .low s) (nar
 
 -- narrowing keeps just the profiles that meet the bound
 pub narrow-in : (g : Ranges) (β : Bound) (x : Profile) → In (narrow β g) x ↔ (In g x × Meets x β)
-narrow-in g (AtMost s p) x =
-    ( (λ h. ((λ i. let k = narrow-high g s p i in let j = h i in omega arith), (let k = narrow-high g s p s in let j = h s in omega arith)))
-    , λ h. by-setting (λ i. (g .low i ≤ x i) × (x i ≤ narrow (AtMost s p) g .high i)) s
-        (let k = narrow-high g s p s in let j = h .0 s in omega arith) (λ i n. let k = narrow-high g s p i in let j = h .0 i in omega arith))
-narrow-in g (AtLeast s p) x =
-    ( (λ h. ((λ i. let k = narrow-low g s p i in let j = h i in omega arith), (let k = narrow-low g s p s in let j = h s in omega arith)))
-    , λ h. by-setting (λ i. (narrow (AtLeast s p) g .low i ≤ x i) × (x i ≤ g .high i)) s
-        (let k = narrow-low g s p s in let j = h .0 s in omega arith) (λ i n. let k = narrow-low g s p i in let j = h .0 i in omega arith))
+narrow-in g (AtMost s p) x = (
+  (λ h. ((λ i. let k = narrow-high g s p i in let j = h i in omega arith), (let k = narrow-high g s p s in let j = h s in omega arith))),
+  λ h. by-setting (λ i. (g .low i ≤ x i) × (x i ≤ narrow (AtMost s p) g .high i)) s
+      (let k = narrow-high g s p s in let j = h .0 s in omega arith) (λ i n. let k = narrow-high g s p i in let j = h .0 i in omega arith),
+)
+narrow-in g (AtLeast s p) x = (
+  (λ h. ((λ i. let k = narrow-low g s p i in let j = h i in omega arith), (let k = narrow-low g s p s in let j = h s in omega arith))),
+  λ h. by-setting (λ i. (narrow (AtLeast s p) g .low i ≤ x i) × (x i ≤ g .high i)) s
+      (let k = narrow-low g s p s in let j = h .0 s in omega arith) (λ i n. let k = narrow-low g s p i in let j = h .0 i in omega arith),
+)
 
 -- inside: every profile of the one is in the other
 pub inside-means : (a b : Ranges) → ((i : ℕ) → a .low i ≤ a .high i) → Inside a b ↔ All-in a b
-inside-means a b ordered =
-    ( (λ h x k i. let m = h i in let n = k i in omega arith)
-    , λ h i. let l = h (a .low) (λ j. let o = ordered j in omega arith) i in let k = h (a .high) (λ j. let o = ordered j in omega arith) i in omega arith )
+inside-means a b ordered = (
+  (λ h x k i. let m = h i in let n = k i in omega arith),
+  λ h i. let l = h (a .low) (λ j. let o = ordered j in omega arith) i in let k = h (a .high) (λ j. let o = ordered j in omega arith) i in omega arith,
+)

@@ -21,15 +21,16 @@ abbrev pub Near : ℕ → Ranges → Ranges → ℕ → Type 0
 Near s a b i = (a .low i ≤ b .high i + cond (eqb i s) 1 0) × (b .low i ≤ a .high i + cond (eqb i s) 1 0)
 
 pub resolvable-near : (s : ℕ) (a b : Ranges) → Resolvable s a b → (i : ℕ) → Near s a b i
-resolvable-near s a b h i = elim (cases-eq i s)
-    [ inl e ↦ rw (eq-eqb i s e) (subst (λ (k : ℕ). (a .low k ≤ b .high k + 1) × (b .low k ≤ a .high k + 1)) (sym e) (omega (arith, h .joins)))
-    | inr n ↦ rw (ne-eqb i s n) (omega (arith, h .others i n)) ]
+resolvable-near s a b h i = elim (cases-eq i s) [
+  | inl e ↦ rw (eq-eqb i s e) (subst (λ (k : ℕ). (a .low k ≤ b .high k + 1) × (b .low k ≤ a .high k + 1)) (sym e) (omega (arith, h .joins)))
+  | inr n ↦ rw (ne-eqb i s n) (omega (arith, h .others i n))
+]
 
 pub near-resolvable : (s : ℕ) (a b : Ranges) → ((i : ℕ) → Near s a b i) → Resolvable s a b
-near-resolvable s a b h = record
-    { joins = let k : (a .low s ≤ b .high s + 1) × (b .low s ≤ a .high s + 1) = rw (eq-eqb s s (λ _. s)) at (h s) in omega arith
-    ; others = λ i n. let k : (a .low i ≤ b .high i + 0) × (b .low i ≤ a .high i + 0) = rw (ne-eqb i s n) at (h i) in omega arith
-    }
+near-resolvable s a b h = record {
+  joins = let k : (a .low s ≤ b .high s + 1) × (b .low s ≤ a .high s + 1) = rw (eq-eqb s s (λ _. s)) at (h s) in omega arith;
+  others = λ i n. let k : (a .low i ≤ b .high i + 0) × (b .low i ≤ a .high i + 0) = rw (ne-eqb i s n) at (h i) in omega arith;
+}
 
 -- past the twelfth setting there is only position 0
 pub near-past : (s : ℕ) (a b : Block) (i : ℕ) → 12 ≤ i → Near s (ranges a) (ranges b) i
@@ -44,7 +45,7 @@ module _ (s : ℕ) (a b : Block) where
       → ((k : ℕ) → k < 12 → (getD low k 0 ≡ both .low k) × (getD high k 0 ≡ both .high k)) → (k : ℕ) → (getD low k 0 ≡ both .low k) × (getD high k 0 ≡ both .high k)
   resolved-each low high l h first = each-of (λ k. (getD low k 0 ≡ both .low k) × (getD high k 0 ≡ both .high k)) 12 first
       (λ k m. let r = resolve-at s (ranges a) (ranges b) k in
-        omega (arith, getD-past low k 0 (omega arith), getD-past high k 0 (omega arith), low-past a k m, low-past b k m, high-past a k m, high-past b k m))
+      omega (arith, getD-past low k 0 (omega arith), getD-past high k 0 (omega arith), low-past a k m, low-past b k m, high-past a k m, high-past b k m))
 
   pub resolved-ordered : Resolvable s (ranges a) (ranges b) → (i : ℕ) → both .low i ≤ both .high i
   resolved-ordered ok i =

@@ -1,17 +1,19 @@
 -- Blocks of the program, by their ranges.
 use mathlib.Core.Path.{_≡_, refl, sym, ap, subst, _∙_}
 use mathlib.Core.Logic.{_↔_}
-use Prim.Native.Nat.{ℕ, _≤_}
+use Prim.Native.Nat.{ℕ, _≤_, _<_}
 use native.Mathlib.Omega.{arith}
-use lib.ListN.{getD}
-use Rattle.std.proofs.shelf.Lists.{getD-past}
+use mathlib.Core.List.{List}
+use lib.ListN.{length, getD}
+use Rattle.std.proofs.shelf.Lists.{getD-past, getD-map}
 use Rattle.std.specs.declared.option.Option.{Option}
 use Rattle.std.specs.declared.option.Option.the-variants.{Some, None}
 use Rattle.blocks.specs.declared.block.Block.{Block}
 use Rattle.blocks.specs.declared.bound.Bound.{Bound}
+use Rattle.blocks.specs.declared.standing.Standing.{Standing}
 use Rattle.blocks.specs.Bounds.{Profile, Meets}
 use Rattle.blocks.specs.Ranges.{Ranges, In, end, with-end, narrow, Back}
-use Rattle.blocks.specs.Views.{ranges, Real, Block-of, Narrowed}
+use Rattle.blocks.specs.Views.{ranges, block-of, blocks, nowhere, Real, Block-of, Narrowed}
 use Rattle.blocks.proofs.Ranging.{narrow-inside, narrow-in, undo-narrow}
 
 -- the ranges of a block are real
@@ -33,3 +35,11 @@ narrowed β b None none = λ x h m.
 
 pub back : (β : Bound) (p : ℕ) (h : Ranges) → Back β p h
 back β p h g e q = ap (with-end β p) e ∙ ap (λ (n : ℕ). with-end β n (narrow β g)) q ∙ undo-narrow β g
+
+-- past the twelfth setting no side of a block cuts another's
+pub held-past : (a b : Block) (k : ℕ) → 12 ≤ k → (ranges b .low k ≤ ranges a .low k) × (ranges a .high k ≤ ranges b .high k)
+held-past a b k h = omega (arith, low-past b k h, high-past a k h)
+
+-- what is read at i is the block at i
+pub block-item : (ss : List Standing) (i : ℕ) (s : Standing) → i < length ss → s ≡ getD ss i s → block-of s ≡ getD (blocks ss) i nowhere
+block-item ss i s h e = ap block-of e ∙ sym (getD-map block-of ss i s nowhere h)

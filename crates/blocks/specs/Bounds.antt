@@ -1,5 +1,8 @@
 -- Bounds, and the profiles that meet them.
-use Prim.Native.Nat.{ℕ, _+_, _*_, _≤_}
+use mathlib.Core.Logic.{_↔_}
+use Prim.Native.Nat.{ℕ, _+_, _*_, _≤_, _<_}
+use Rattle.std.specs.declared.option.Option.{Option}
+use Rattle.std.specs.declared.option.Option.the-variants.{Some, None}
 use Rattle.scales.specs.declared.side.Side.{Side}
 use Rattle.scales.specs.declared.side.Side.the-variants.{AtMost as most, AtLeast as least}
 use Rattle.blocks.specs.declared.bound.Bound.{Bound}
@@ -37,3 +40,8 @@ told β = (setting β, side β, position β)
 abbrev pub rank : Bound → ℕ
 rank (AtMost s p) = 2 * s
 rank (AtLeast s p) = 2 * s + 1
+
+-- just the profiles that break the bound meet the opposite one; where there is none, all profiles of 32-bit positions meet the bound
+abbrev pub Opposite : Bound → Option Bound → Type 0
+Opposite β (Some γ) = (x : Profile) → Meets x γ ↔ (¬ Meets x β)
+Opposite β None = (x : Profile) → ((i : ℕ) → x i < 4294967296) → Meets x β

@@ -58,10 +58,10 @@ Back β p h = (g : Ranges) → h ≡ narrow β g → p ≡ end β g → with-end
 
 -- resolving two blocks on a setting: the lesser low and the greater high there, the overlap in every other
 abbrev pub resolve : ℕ → Ranges → Ranges → Ranges
-resolve s a b = record
-    { low = λ i. cond (eqb i s) (min (a .low i) (b .low i)) (max (a .low i) (b .low i))
-    ; high = λ i. cond (eqb i s) (max (a .high i) (b .high i)) (min (a .high i) (b .high i))
-    }
+resolve s a b = record {
+  low = λ i. cond (eqb i s) (min (a .low i) (b .low i)) (max (a .low i) (b .low i));
+  high = λ i. cond (eqb i s) (max (a .high i) (b .high i)) (min (a .high i) (b .high i));
+}
 
 abbrev pub Overlap : Ranges → Ranges → ℕ → Type 0
 Overlap a b i = (a .low i ≤ b .high i) × (b .low i ≤ a .high i)

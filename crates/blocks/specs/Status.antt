@@ -87,3 +87,14 @@ see-high g b i seen = cond (ltb (b .high i) (g .high i)) (more seen (i, 1, b .hi
 -- where the block and the region do not lie apart
 abbrev pub see : Ranges → Ranges → ℕ → Status → Status
 see g b i seen = cond (ltb (g .high i) (b .low i) || ltb (b .high i) (g .low i)) dead (see-high g b i (see-low g b i seen))
+
+-- the open bounds at setting i, by the ends
+abbrev pub Low-open : Ranges → Ranges → ℕ → Type 0
+Low-open g b i = (g .low i < b .low i) × (b .low i ≤ g .high i)
+
+abbrev pub High-open : Ranges → Ranges → ℕ → Type 0
+High-open g b i = (g .low i ≤ b .high i) × (b .high i < g .high i)
+
+abbrev pub Open-at : Ranges → Ranges → ℕ → Option (ℕ × ℕ × ℕ) → Type 0
+Open-at g b i None = (¬ Low-open g b i) × (¬ High-open g b i)
+Open-at g b i (Some t) = (Low-open g b i × (t ≡ (i, 0, b .low i - 1))) ⊎ ((¬ Low-open g b i) × High-open g b i × (t ≡ (i, 1, b .high i + 1)))

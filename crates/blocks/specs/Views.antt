@@ -27,20 +27,25 @@ abbrev pub last-at : Lasts → ℕ → ℕ
 last-at l i = getD (l .last) i 0
 
 -- the blocks that stand, in order
-abbrev pub blocks : List Standing → List Ranges
-blocks [] = []
-blocks (s ∷ ss) = ranges (s .block) ∷ blocks ss
+abbrev pub block-of : Standing → Ranges
+block-of s = ranges (s .block)
 
--- no position at all, read where no block stands
+abbrev pub blocks : List Standing → List Ranges
+blocks ss = map block-of ss
+
+-- read where no block stands
 abbrev pub nowhere : Ranges
 nowhere = record { low = λ _. 0; high = λ _. 0 }
 
 abbrev pub high-of : List Standing → ℕ → ℕ → ℕ
 high-of ss i j = getD (blocks ss) i nowhere .high j
 
--- how many bounds block i has
+-- how many bounds the block has
+abbrev pub sides : Lasts → Ranges → ℕ
+sides l b = length (bounds-below (last-at l) b 12)
+
 abbrev pub sides-of : Lasts → List Standing → ℕ → ℕ
-sides-of l ss i = length (bounds-below (last-at l) (getD (blocks ss) i nowhere) 12)
+sides-of l ss i = sides l (getD (blocks ss) i nowhere)
 
 -- one setting more, with this last position, behind the others
 abbrev pub Declared : ℕ → Lasts → Lasts → Result ℕ Refusal → Type 0
@@ -68,3 +73,8 @@ resolve-checks s a b = check NotResolvable (Resolvable s a b) ∷ []
 
 abbrev pub Resolves : ℕ → Ranges → Ranges → Result Block Refusal → Type 0
 Resolves s a b r = Outcome (resolve-checks s a b) (λ c. (ranges c ≡ resolve s a b) × ((x : Profile) → In (ranges c) x → In a x ⊎ In b x)) r
+
+-- a block that may stand: over the settings, with at most four bounds
+pub record Fit-to-stand (l : Lasts) (b : Ranges) : Type 0 where
+  pub within : (i : ℕ) → b .high i ≤ last-at l i
+  pub four : sides l b ≤ 4

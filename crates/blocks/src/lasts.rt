@@ -3,6 +3,7 @@ ghost use Prim.Native.Nat.{ℕ, _≤_};
 ghost use lib.ListN.{length, getD};
 
 pub mod declare;
+pub mod holds;
 
 // The last position of each declared setting, in order. One that is not declared has 0.
 #[derive(Clone, Copy)]

@@ -3,5 +3,6 @@ pub mod block;
 pub mod bound;
 pub mod lasts;
 pub mod problem;
+pub mod rule;
 pub mod standing;
 pub mod status;

@@ -5,8 +5,11 @@ ghost use Rattle.blocks.specs.Views.{last-at, high-of, sides-of};
 use crate::lasts::Lasts;
 use crate::standing::Standing;
 
-// A problem: the settings' last positions and what stands, at most 48 blocks of at most four
-// bounds, each low ≤ high ≤ last.
+pub mod admit;
+pub mod pose;
+
+// A problem: the settings' last positions and what stands on them, at most 48 blocks of at most
+// four bounds, each with low ≤ high ≤ last.
 #[derive(Clone, Copy)]
 pub struct Problem<'a> {
     lasts: &'a Lasts,

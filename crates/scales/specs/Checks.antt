@@ -6,7 +6,8 @@ use Rattle.std.specs.declared.result.Result.{Result}
 use Rattle.std.specs.declared.result.Result.the-variants.{Ok, Err}
 use Rattle.scales.specs.declared.refusal.Stop.{Stop}
 use Rattle.scales.specs.declared.refusal.Refusal.{Refusal}
-use Rattle.scales.specs.Stops.{no-place}
+use Prim.Native.Nat.{ℕ}
+use Rattle.scales.specs.Stops.{at-place, no-place}
 
 -- what has to hold, and the refusal where it does not
 pub record Check : Type 1 where
@@ -16,6 +17,10 @@ pub record Check : Type 1 where
 -- a check whose refusal has nothing to count
 abbrev pub check : Stop → Type 0 → Check
 check s P = record { holds = P; refusal = no-place s }
+
+-- a check whose refusal is at the n-th bound or line
+abbrev pub check-at : Stop → ℕ → Type 0 → Check
+check-at s n P = record { holds = P; refusal = at-place s n }
 
 -- every check holds
 abbrev pub Passes : List Check → Type 0

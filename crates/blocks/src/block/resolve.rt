@@ -12,7 +12,11 @@ use scales::refusal::Stop;
 fn reaches(low: u32, high: u32, adjoin: bool) -> bool
     ensures { λ r. ⌜ When r (low ≤ high + cond adjoin 1 0) (high + cond adjoin 1 0 < low) ⌝ }
 {
-    if adjoin { low <= high.saturating_add(1) } else { low <= high }
+    if adjoin {
+        low <= high.saturating_add(1)
+    } else {
+        low <= high
+    }
 }
 
 impl Block {
@@ -22,7 +26,9 @@ impl Block {
     {
         for i in 0..12 {
             let here = i == setting as usize;
-            if !reaches(self.low[i], other.high[i], here) || !reaches(other.low[i], self.high[i], here) {
+            if !reaches(self.low[i], other.high[i], here)
+                || !reaches(other.low[i], self.high[i], here)
+            {
                 return false;
             }
         }

@@ -1,8 +1,6 @@
 ghost use mathlib.Core.Path.{_≡_};
-ghost use Prim.Native.Nat.{ℕ, _+_, _<_};
-ghost use lib.ListN.{set};
-ghost use Rattle.scales.specs.Checks.{Outcome};
-ghost use Rattle.blocks.specs.Views.{Declared};
+ghost use lib.ListN.{replicate};
+ghost use Rattle.blocks.specs.Views.{last-at, Declared};
 use crate::lasts::Lasts;
 use scales::refusal::Refusal;
 use scales::refusal::Stop;
@@ -11,7 +9,7 @@ use scales::scale::Scale;
 impl Lasts {
     // No setting.
     pub fn new() -> Lasts
-        ensures { λ r. ⌜ r .count ≡ 0 ⌝ }
+        ensures { λ r. ⌜ (r .count ≡ 0) × (r .last ≡ replicate 12 0) ⌝ }
     {
         Lasts {
             last: [0; 12],
@@ -30,5 +28,20 @@ impl Lasts {
         self.last[at] = scale.last();
         self.count = at + 1;
         Ok(at as u8)
+    }
+
+    // How many settings are declared.
+    pub fn count(&self) -> u8
+        ensures { λ r. ⌜ r ≡ now (self .entry) .count ⌝ }
+    {
+        self.count as u8
+    }
+
+    // The last position of a setting; 0 for one that is not declared.
+    pub fn last(&self, setting: u8) -> u32
+        ensures { λ r. ⌜ r ≡ last-at (now (self .entry)) setting ⌝ }
+    {
+        let i = setting as usize;
+        if i < 12 { self.last[i] } else { 0 }
     }
 }

@@ -5,7 +5,7 @@ use Rattle.blocks.specs.Ranges.{Inside}
 use Rattle.blocks.specs.Views.{ranges}
 use Rattle.blocks.proofs.Arrays.{each-of}
 use Rattle.blocks.proofs.Ranging.{inside-means}
-use Rattle.blocks.proofs.Viewing.{low-past, high-past}
+use Rattle.blocks.proofs.Viewing.{held-past}
 use Rattle.blocks.proofs.block.Block.is_inside.Needs.{then-self-i·by·then-self-i, then-self-i·by·else-self-i·then-other-i}
 use Rattle.blocks.proofs.block.Block.is_inside.Needs as need
 
@@ -23,6 +23,6 @@ returns c =
     let a = c .args .self .now in
     let b = c .args .other .now in
     record {
-      answer = each-of (λ k. (ranges b .low k ≤ ranges a .low k) × (ranges a .high k ≤ ranges b .high k)) 12 (λ k l. c .loop-i .inv k (omega arith)) (λ k l. omega (arith, low-past b k l, high-past a k l));
+      answer = each-of (λ k. (ranges b .low k ≤ ranges a .low k) × (ranges a .high k ≤ ranges b .high k)) 12 (λ k l. c .loop-i .inv k (omega arith)) (held-past a b);
       profiles = inside-means (ranges a) (ranges b) (a .ordered);
     }

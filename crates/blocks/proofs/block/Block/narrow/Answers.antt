@@ -15,7 +15,7 @@ returns-in-AtMost c =
     let r = c .with-high .result in
     let e : c .min .result ≡ min (ranges b .high s) p = c .min .ensures ∙ ap (λ (n : ℕ). min n p) (c .high .ensures) in
     subst (λ (β : Bound). Narrowed β (ranges b) r) (sym (c .in-AtMost .is))
-      (narrowed (AtMost s p) b r (subst (λ (n : ℕ). Block-of (with-high s n (ranges b)) r) e (c .with-high .ensures)))
+    (narrowed (AtMost s p) b r (subst (λ (n : ℕ). Block-of (with-high s n (ranges b)) r) e (c .with-high .ensures)))
 
 pub returns-in-AtLeast : need.returns-in-AtLeast
 returns-in-AtLeast c =
@@ -25,4 +25,4 @@ returns-in-AtLeast c =
     let r = c .with-low .result in
     let e : c .max .result ≡ max (ranges b .low s) p = c .max .ensures ∙ ap (λ (n : ℕ). max n p) (c .low .ensures) in
     subst (λ (β : Bound). Narrowed β (ranges b) r) (sym (c .in-AtLeast .is))
-      (narrowed (AtLeast s p) b r (subst (λ (n : ℕ). Block-of (with-low s n (ranges b)) r) e (c .with-low .ensures)))
+    (narrowed (AtLeast s p) b r (subst (λ (n : ℕ). Block-of (with-low s n (ranges b)) r) e (c .with-low .ensures)))

@@ -14,7 +14,8 @@ returns-else-i-lt12 c =
     let len : length (c .args .positions) ≡ 12 = search needs in
     record {
       len = len;
-      at = λ i. elim (cases-eq i s)
-        [ inl e ↦ rw (eq-eqb i s e) (getD-past (c .args .positions) i 0 (omega arith) ∙ sym (c .pre (omega arith)))
-        | inr n ↦ rw (ne-eqb i s n) ];
+      at = λ i. elim (cases-eq i s) [
+        | inl e ↦ rw (eq-eqb i s e) (getD-past (c .args .positions) i 0 (omega arith) ∙ sym (c .pre (omega arith)))
+        | inr n ↦ rw (ne-eqb i s n)
+      ];
     }

@@ -1,0 +1,45 @@
+-- Rules, which of them are admitted, and the block of a rule.
+use mathlib.Core.Logic.{_⊎_, _↔_}
+use mathlib.Core.List.{List, [], _∷_, _++_}
+use Prim.Native.Nat.{ℕ, zero, suc, _≤_, _<_}
+use lib.ListN.{length}
+use Rattle.scales.specs.declared.refusal.Stop.the-variants.{OffScale, Undeclared, BoundCount, AlwaysMet, RulesFull}
+use Rattle.scales.specs.Checks.{Check, check, check-at}
+use Rattle.blocks.specs.declared.bound.Bound.{Bound}
+use Rattle.blocks.specs.declared.bound.Bound.the-variants.{AtMost, AtLeast}
+use Rattle.blocks.specs.Bounds.{Profile, setting, position, Meets}
+use Rattle.blocks.specs.Ranges.{Ranges, Stands, everything, In, narrow}
+use Rattle.blocks.specs.Sheets.{Sheet}
+
+-- a rule is met when one of its bounds is
+abbrev pub Meets-rule : Profile → List Bound → Type 0
+Meets-rule x [] = ⊥
+Meets-rule x (β ∷ βs) = Meets x β ⊎ Meets-rule x βs
+
+-- some profile breaks the rule
+abbrev pub Breakable : (ℕ → ℕ) → List Bound → Type 0
+Breakable last βs = (x : Profile) × In (everything last) x × (¬ Meets-rule x βs)
+
+-- the block holds just the profiles that break the rule
+pub record Breakers (last : ℕ → ℕ) (βs : List Bound) (b : Ranges) : Type 0 where
+  pub stands : Stands last b
+  pub breaks : (x : Profile) → In (everything last) x → In b x ↔ (¬ Meets-rule x βs)
+
+-- what a sheet asks of a rule's n-th bound: its setting is declared, its position on that setting's scale
+abbrev pub bound-check : Sheet → ℕ → Bound → List Check
+bound-check S n β = check-at Undeclared n (setting β < S .count) ∷ check-at OffScale n (position β ≤ S .last (setting β)) ∷ []
+
+-- bound by bound, from the n-th on
+abbrev pub bound-checks : Sheet → ℕ → List Bound → List Check
+bound-checks S n [] = []
+bound-checks S n (β ∷ βs) = bound-check S n β ++ bound-checks S (suc n) βs
+
+abbrev pub One-to-four : List Bound → Type 0
+One-to-four βs = (1 ≤ length βs) × (length βs ≤ 4)
+
+-- what a sheet asks of a rule, in order
+abbrev pub admit-checks : Sheet → List Bound → List Check
+admit-checks S βs =
+    check BoundCount (One-to-four βs) ∷ []
+    ++ bound-checks S 1 βs
+    ++ check AlwaysMet (Breakable (S .last) βs) ∷ check RulesFull (length (S .rules) < 48) ∷ []
