@@ -103,9 +103,10 @@ module _ (last : ℕ → ℕ) (βs : List Bound) (i : ℕ) (g : Ranges) (inv : B
           let k : h .high j ≤ g .high j = subst (λ (r : Ranges). r .high j ≤ g .high j) (sym e) (narrow-inside g γ j .1) in
           let s = inv .stands j in
           (ordered j, omega arith);
-      holds = λ x w.
-          ( (λ m. below-more (λ k. ¬ Meets x (getD βs k no-bound)) i (inv .holds x w .0 (both x .0 m .0)) (opposite x .0 (both x .0 m .1)))
-          , (λ b. both x .1 (inv .holds x w .1 (λ k l. b k (omega arith)), opposite x .1 (b i (omega arith)))));
+      holds = λ x w. (
+        (λ m. below-more (λ k. ¬ Meets x (getD βs k no-bound)) i (inv .holds x w .0 (both x .0 m .0)) (opposite x .0 (both x .0 m .1))),
+        (λ b. both x .1 (inv .holds x w .1 (λ k l. b k (omega arith)), opposite x .1 (b i (omega arith)))),
+      );
       few = let n = one-more last g γ 12 in let f = inv .few in subst (λ (r : Ranges). length (bounds-below last r 12) ≤ i + 1) (sym e) (omega arith);
     }
 

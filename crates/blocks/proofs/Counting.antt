@@ -94,9 +94,10 @@ module _ (last : ℕ → ℕ) (g : Ranges) (γ : Bound) where
 
   one-behind : (n : ℕ) → setting γ < n → after n ≤ suc (before n)
   one-behind zero l = absurd (omega arith)
-  one-behind (suc n) l = elim (cases-lt (setting γ) n)
-      [ inl k ↦ omega (arith, below-length last g n, below-length last (narrow γ g) n, one-behind n k, sides-same last g γ n (omega arith))
-      | inr k ↦ omega (arith, below-length last g n, below-length last (narrow γ g) n, same-before n k, sides-one last g γ n) ]
+  one-behind (suc n) l = elim (cases-lt (setting γ) n) [
+    | inl k ↦ omega (arith, below-length last g n, below-length last (narrow γ g) n, one-behind n k, sides-same last g γ n (omega arith))
+    | inr k ↦ omega (arith, below-length last g n, below-length last (narrow γ g) n, same-before n k, sides-one last g γ n)
+  ]
 
   pub one-more : (n : ℕ) → after n ≤ suc (before n)
   one-more n = elim (cases-lt (setting γ) n) [ inl l ↦ one-behind n l | inr l ↦ let e = same-before n l in omega arith ]

@@ -6,3 +6,4 @@ pub mod Seeing
 pub mod First
 pub mod Counting
 pub mod Admitting
+pub mod Numbered

@@ -6,3 +6,6 @@ pub mod Views
 pub mod Sheets
 pub mod Rules
 pub mod Problems
+pub mod Lines
+pub mod Slots
+pub mod Sinks

@@ -2,7 +2,10 @@
 pub mod block;
 pub mod bound;
 pub mod lasts;
+pub mod line;
 pub mod problem;
 pub mod rule;
+pub mod sink;
+pub mod slot;
 pub mod standing;
 pub mod status;

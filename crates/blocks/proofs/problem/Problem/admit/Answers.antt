@@ -37,6 +37,7 @@ returns c =
     let l = c .args .self .now .lasts .now in
     let ss = c .args .self .now .rules .now in
     let βs = c .args .rule .now .bounds .now in
-    let b = c .in-Some .ensures tt in
-    (admitted (sheet-of l ss) βs (omega arith) (c .in-Continue-check-bounds .ensures tt .0) (breakers-some (last-at l) βs (ranges (c .in-Some .block)) (b .0)) (omega (arith, length-map ss block-of)),
-     (b .0, record { within = λ i. b .0 .stands i .1; four = omega (arith, b .1) }))
+    let b = c .in-Some .ensures tt in (
+      admitted (sheet-of l ss) βs (omega arith) (c .in-Continue-check-bounds .ensures tt .0) (breakers-some (last-at l) βs (ranges (c .in-Some .block)) (b .0)) (omega (arith, length-map ss block-of)),
+      (b .0, record { within = λ i. b .0 .stands i .1; four = omega (arith, b .1) }),
+    )
