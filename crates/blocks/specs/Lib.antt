@@ -9,3 +9,4 @@ pub mod Problems
 pub mod Lines
 pub mod Slots
 pub mod Sinks
+pub mod Examples

@@ -1,6 +1,7 @@
 // Bounds, rules and blocks of profiles: what the search and the judge share, and all that they share.
 pub mod block;
 pub mod bound;
+pub mod examples;
 pub mod lasts;
 pub mod line;
 pub mod problem;
