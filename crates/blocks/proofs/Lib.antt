@@ -7,3 +7,5 @@ pub mod First
 pub mod Counting
 pub mod Admitting
 pub mod Numbered
+pub mod Breaking
+pub mod Posting

@@ -10,3 +10,4 @@ pub mod Lines
 pub mod Slots
 pub mod Sinks
 pub mod Examples
+pub mod RuleSets

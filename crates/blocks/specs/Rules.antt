@@ -43,3 +43,28 @@ admit-checks S βs =
     check BoundCount (One-to-four βs) ∷ []
     ++ bound-checks S 1 βs
     ++ check AlwaysMet (Breakable (S .last) βs) ∷ check RulesFull (length (S .rules) < 48) ∷ []
+
+-- the profiles that break "at most p" are those at least p + 1; those that break "at least p" are at most p - 1, and none breaks "at least 0"
+abbrev pub against : (ℕ → ℕ) → Bound → Bound
+against last (AtMost s p) = AtLeast s (suc p)
+against last (AtLeast s zero) = AtLeast s (suc (last s))
+against last (AtLeast s (suc p)) = AtMost s p
+
+-- the block of a rule, bound by bound; it holds the breakers, and no other block does
+abbrev pub rule-block : (ℕ → ℕ) → List Bound → Ranges
+rule-block last [] = everything last
+rule-block last (β ∷ βs) = narrow (against last β) (rule-block last βs)
+
+-- the sheet with one rule more, behind the others
+abbrev pub with-rule : Sheet → List Bound → Sheet
+with-rule S βs = record { count = S .count; last = S .last; rules = S .rules ++ rule-block (S .last) βs ∷ [] }
+
+-- and with these rules more, in order
+abbrev pub with-rules : Sheet → List (List Bound) → Sheet
+with-rules S [] = S
+with-rules S (r ∷ rs) = with-rules (with-rule S r) rs
+
+-- what is asked of several rules, one after the other
+abbrev pub rules-checks : Sheet → List (List Bound) → List Check
+rules-checks S [] = []
+rules-checks S (r ∷ rs) = admit-checks S r ++ rules-checks (with-rule S r) rs

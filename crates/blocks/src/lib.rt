@@ -6,6 +6,7 @@ pub mod lasts;
 pub mod line;
 pub mod problem;
 pub mod rule;
+pub mod ruleset;
 pub mod sink;
 pub mod slot;
 pub mod standing;

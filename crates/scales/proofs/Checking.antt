@@ -9,6 +9,10 @@ pub both-pass : (a b : List Check) → Passes a → Passes b → Passes (a ++ b)
 both-pass [] b p q = q
 both-pass (c ∷ a) b p q = (p .0, both-pass a b (p .1) q)
 
+pub pass-behind : (a b : List Check) → Passes (a ++ b) → Passes b
+pass-behind [] b p = p
+pass-behind (c ∷ a) b p = pass-behind a b (p .1)
+
 pub first-refuses : (a b : List Check) (e : Refusal) → Refuses a e → Refuses (a ++ b) e
 first-refuses [] b e r = absurd r
 first-refuses (c ∷ a) b e (inl r) = inl r

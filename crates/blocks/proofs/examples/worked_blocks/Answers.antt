@@ -25,9 +25,10 @@ breaks x e (inr (inl m)) = omega arith
 breaks x e (inr (inr m)) = m
 
 is-four : (x : Profile) → (¬ Meets-rule x (AtMost 0 3 ∷ AtLeast 0 5 ∷ [])) → x 0 ≡ 4
-is-four x n = elim (cases-lt (x 0) 4)
-    [ inl l ↦ absurd (n (inl (omega arith)))
-    | inr l ↦ elim (cases-lt 4 (x 0)) [ inl k ↦ absurd (n (inr (inl k))) | inr k ↦ omega arith ] ]
+is-four x n = elim (cases-lt (x 0) 4) [
+  | inl l ↦ absurd (n (inl (omega arith)))
+  | inr l ↦ elim (cases-lt 4 (x 0)) [ inl k ↦ absurd (n (inr (inl k))) | inr k ↦ omega arith ]
+]
 
 meets : (x : Profile) → Meets-rule x (AtMost 0 3 ∷ AtLeast 0 4 ∷ [])
 meets x = elim (cases-lt (x 0) 4) [ inl l ↦ inl (omega arith) | inr l ↦ inr (inl l) ]
