@@ -9,3 +9,4 @@ pub mod Admitting
 pub mod Numbered
 pub mod Breaking
 pub mod Posting
+pub mod Numbers

@@ -31,3 +31,16 @@ block-number n = record { number = min n 99999; small = omega arith }
 
 abbrev pub setting-number : ℕ → SettingNumber
 setting-number n = record { number = min n 999; small = omega arith }
+
+-- the four lines, by the numbers that they name
+abbrev pub t-line : ℕ → Line
+t-line k = Take (block-number k)
+
+abbrev pub r-line : ℕ → ℕ → Line
+r-line k s = Resolve (block-number k) (setting-number s)
+
+abbrev pub k-line : ℕ → Line
+k-line k = Keep (block-number k)
+
+abbrev pub e-line : Line
+e-line = End

@@ -1,0 +1,5 @@
+pub mod Least
+pub mod Sound
+pub mod Same
+pub mod Ends
+pub mod Total

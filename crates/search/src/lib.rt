@@ -1,0 +1,4 @@
+// The search.
+pub fn nothing() -> u8 {
+    0
+}
