@@ -161,3 +161,7 @@ module _ (g b : Ranges) where
 
   pub seen-status : (n : ℕ) → ((k : ℕ) → n ≤ k → Held k) → Tells g b (seen-below n)
   seen-status n far = seen-tells n far (seen-below n) (seen-right n)
+
+  -- once apart, the two stay apart
+  pub seen-dead : (n : ℕ) → seen-below n ≡ dead → Tells g b dead
+  seen-dead n e = let h : Seen n dead = subst (Seen n) e (seen-right n) in dead-at (h .0) (h .2)

@@ -50,6 +50,7 @@ number-push n e t l = rw (same, pow-suc 3 (n - suc (length t))) (rises e (value 
   where
     same : n - length t ≡ suc (n - suc (length t))
     same = omega arith
+
     rises : (e : Entry) (v p : ℕ) → 0 < p → v * (p * 3) < (3 * v + digit e) * p
     rises (decided β) v p h = omega arith
     rises (forced β k) v p h = omega arith
@@ -70,8 +71,10 @@ number-cut n u r β γ k l = subst (λ x. value (u ++ decided β ∷ r) * 3 ^ q 
   where
     q : ℕ
     q = n - length (u ++ decided β ∷ r)
+
     len : n - suc (length r) ≡ length u + q
     len = omega (arith, length-append u (decided β ∷ r))
+
     same : suc (3 * value r + 1) * 3 ^ length u * 3 ^ q ≡ (3 * value r + 2) * 3 ^ (n - suc (length r))
     same = rw (len, pow-add 3 (length u) q) (omega arith)
 
@@ -95,6 +98,7 @@ number-below n t l = subst (λ x. number n t < x) same (mul-lt-mul-of-pos-right 
   where
     front : value t < 3 ^ length t
     front = let h : value t < suc 0 * 3 ^ length t = rw append-nil at (value-front t []) in omega arith
+
     same : 3 ^ length t * 3 ^ (n - length t) ≡ 3 ^ n
     same = sym (pow-add 3 (length t) (n - length t)) ∙ ap (λ x. 3 ^ x) (omega arith)
 
@@ -158,18 +162,19 @@ abbrev pub From : (ℕ → ℕ) → List Bound → Ranges → Type 0
 From last B b = (β : Bound) → BoundOf last b β → Mem β B
 
 pick : (x a b : ℕ) → (x ≡ min a b) ⊎ (x ≡ max a b) → (x ≡ a) ⊎ (x ≡ b)
-pick x a b h = elim (cases-lt a b)
-    [ inl l ↦ elim h [ inl e ↦ inl (omega arith) | inr e ↦ inr (omega arith) ]
-    | inr l ↦ elim h [ inl e ↦ inr (omega arith) | inr e ↦ inl (omega arith) ] ]
+pick x a b h = elim (cases-lt a b) [
+  | inl l ↦ elim h [ inl e ↦ inl (omega arith) | inr e ↦ inr (omega arith) ]
+  | inr l ↦ elim h [ inl e ↦ inr (omega arith) | inr e ↦ inl (omega arith) ]
+]
 
 -- resolving brings no new bound
 pub resolve-from : (last : ℕ → ℕ) (B : List Bound) (s : ℕ) (a b : Ranges) → From last B a → From last B b → From last B (resolve s a b)
 resolve-from last B s a b fa fb (AtMost t p) e =
     ⊎-elim (λ h. fa (AtMost t p) (sym h ∙ e)) (λ h. fb (AtMost t p) (sym h ∙ e))
-      (pick (resolve s a b .low t) (a .low t) (b .low t) (⊎-elim (λ r. inl (r .1)) (λ r. inr (r .1)) (resolve-at s a b t)))
+    (pick (resolve s a b .low t) (a .low t) (b .low t) (⊎-elim (λ r. inl (r .1)) (λ r. inr (r .1)) (resolve-at s a b t)))
 resolve-from last B s a b fa fb (AtLeast t p) e =
     ⊎-elim (λ h. fa (AtLeast t p) (omega arith)) (λ h. fb (AtLeast t p) (omega arith))
-      (pick (resolve s a b .high t) (a .high t) (b .high t) (⊎-elim (λ r. inr (r .2)) (λ r. inl (r .2)) (resolve-at s a b t)))
+    (pick (resolve s a b .high t) (a .high t) (b .high t) (⊎-elim (λ r. inr (r .2)) (λ r. inl (r .2)) (resolve-at s a b t)))
 
 abbrev pub Within : List Bound → List Entry → Type 0
 Within B [] = Unit {0}
@@ -198,12 +203,14 @@ pub record Drawn (S : Sheet) (B : List Bound) (st : State) : Type 0 where
 pub step-drawn : (S : Sheet) (B : List Bound) (m : ℕ) {a c : State} {ls : List Line} → Step S m a ls c → Drawn S B a → Drawn S B c
 step-drawn S B m (force {k = k} {b = b} {β = β} f is h) w = record { trail = (w .blocks k b is β (h .bound), w .trail); blocks = w .blocks }
 step-drawn S B m (decide {k = k} {b = b} {β = β} x f is h) w = record { trail = (w .blocks k b is β (h .bound), w .trail); blocks = w .blocks }
-step-drawn S B m (learn {st = a} {k = k} {w = v} {t = t} {j = j} {β = β} c fr h) w = record
-    { trail = (new β (h .bound), within-rest B (cut .0 ++ decided (cut .1) ∷ []) t (subst (Within B) (cut .2 ∙ sym (append-assoc (cut .0) (decided (cut .1) ∷ []) t)) (w .trail)))
-    ; blocks = put-all (From (S .last) B) (S .rules) (a .slots) j v (w .blocks) new }
+step-drawn S B m (learn {st = a} {k = k} {w = v} {t = t} {j = j} {β = β} c fr h) w = record {
+  trail = (new β (h .bound), within-rest B (cut .0 ++ decided (cut .1) ∷ []) t (subst (Within B) (cut .2 ∙ sym (append-assoc (cut .0) (decided (cut .1) ∷ []) t)) (w .trail)));
+  blocks = put-all (From (S .last) B) (S .rules) (a .slots) j v (w .blocks) new;
+}
   where
     new : From (S .last) B v
     new = analysis-from (S .last) B (blocks-of S m a) (w .blocks) (c .analysed) (w .blocks k (c .block) (c .there))
+
     cut : (u : List Entry) × (β : Bound) × (a .trail ≡ u ++ decided β ∷ t)
     cut = cut-at (c .analysed)
 

@@ -3,3 +3,5 @@ pub mod Sound
 pub mod Same
 pub mod Ends
 pub mod Total
+pub mod Feeding
+pub mod Scanning

@@ -33,9 +33,10 @@ bound-same last b (AtLeast s p) (AtMost t q) h k e = absurd (omega arith)
 bound-same last b (AtLeast s p) (AtLeast t q) h k e = let z : s ≡ t = omega arith in ap₂ AtLeast z (let y = ap (b .high) z in omega arith)
 
 pub forces-same : (last : ℕ → ℕ) (g b : Ranges) (β γ : Bound) → Forces last g b β → Forces last g b γ → β ≡ γ
-forces-same last g b β γ f h = elim (cases-eq (rank β) (rank γ))
-    [ inl e ↦ bound-same last b β γ (f .bound) (h .bound) e
-    | inr n ↦ absurd (h .open′ .1 (f .others γ (h .bound) (λ e. n (ap rank (sym e))))) ]
+forces-same last g b β γ f h = elim (cases-eq (rank β) (rank γ)) [
+  | inl e ↦ bound-same last b β γ (f .bound) (h .bound) e
+  | inr n ↦ absurd (h .open′ .1 (f .others γ (h .bound) (λ e. n (ap rank (sym e)))))
+]
 
 pub first-open-same : (last : ℕ → ℕ) (g b : Ranges) (β γ : Bound) → First-open last g b β → First-open last g b γ → β ≡ γ
 first-open-same last g b β γ f h = bound-same last b β γ (f .bound) (h .bound)
@@ -75,8 +76,10 @@ module _ (S : Sheet) (m : ℕ) where
     where
       e : k ≡ j
       e = first-same (Hit S m st) k j (c .first) (d .first)
+
       b : c .block ≡ d .block
       b = some-same (c .there) (ap (blocks-of S m st) e ∙ d .there)
+
       r : (ls ≡ ks) × (o ≡ p)
       r = analysis-same (S .last) (blocks-of S m st) (c .analysed) (subst (λ w. Analysis (S .last) (blocks-of S m st) (st .trail) w ks p) (sym b) (d .analysed))
 
@@ -109,9 +112,10 @@ module _ (S : Sheet) (m : ℕ) where
       let ew : w ≡ w′ = cc in
       let et : t ≡ t′ = cc in
       let ed = slot-same m (a .next) t d d′ fr (subst (λ x. Free-slot m (a .next) x d′) (sym et) fr′) in
-      let eβ = forces-same (S .last) (region (S .last) t) w β β′ h (subst₂ (λ x y. Forces (S .last) (region (S .last) x) y β′) (sym et) (sym ew) h′) in
-      ( (λ i. t-line (r .0 i) ∷ (r .1 i ++ k-line (100 + ed i) ∷ []))
-      , λ i. record { trail = forced (eβ i) (100 + ed i) ∷ et i; slots = update eqb (a .slots) (ed i) (Some (ew i)); next = suc (ed i) })
+      let eβ = forces-same (S .last) (region (S .last) t) w β β′ h (subst₂ (λ x y. Forces (S .last) (region (S .last) x) y β′) (sym et) (sym ew) h′) in (
+        (λ i. t-line (r .0 i) ∷ (r .1 i ++ k-line (100 + ed i) ∷ [])),
+        λ i. record { trail = forced (eβ i) (100 + ed i) ∷ et i; slots = update eqb (a .slots) (ed i) (Some (ew i)); next = suc (ed i) },
+      )
 
   pub ends-same : {a : State} {ls ks : List Line} {v u : Verdict} → Ends S m a ls v → Ends S m a ks u → (ls ≡ ks) × (v ≡ u)
   ends-same (all-dead n d) (all-dead n′ d′) = (refl, refl)

@@ -80,9 +80,10 @@ pub record Good (S : Sheet) (st : State) : Type 0 where
   pub blocks : Lawful S (block-at (S .rules) (st .slots))
 
 pub rule-block : (S : Sheet) → Proper S → (slots : ℕ → Option Ranges) (i : ℕ) (b : Ranges) → nth (S .rules) i ≡ Some b → block-at (S .rules) slots i ≡ Some b
-rule-block S pr slots i b e = elim (cases-lt i (length (S .rules)))
-    [ inl l ↦ rw (lt-ltb i 100 (let k = pr .few in omega arith)) e
-    | inr l ↦ let n = nth-past (S .rules) i l in let z : _≡_ {A = ℕ} 0 1 = cc in absurd (omega arith) ]
+rule-block S pr slots i b e = elim (cases-lt i (length (S .rules))) [
+  | inl l ↦ rw (lt-ltb i 100 (let k = pr .few in omega arith)) e
+  | inr l ↦ let n = nth-past (S .rules) i l in let z : _≡_ {A = ℕ} 0 1 = cc in absurd (omega arith)
+]
 
 pub good-start : (S : Sheet) → Proper S → Good S cold
 good-start S pr = record { trail = tt; blocks = lawful-start S pr }
@@ -101,15 +102,21 @@ step-good S m (force {st = a} {k = k} {b = b} {β = β} fst is f) g =
     record { trail = (c .0, g .trail, (b, is, c .1)); blocks = g .blocks }
 step-good S m (decide {st = a} {k = k} {b = b} {β = β} no-hit fst is f) g =
     record { trail = (open-at (S .last) (region-of S m a) (stands S m a g) β .0 (f .open′), g .trail); blocks = g .blocks }
-step-good S m (learn {st = a} {k = k} {ls = ls} {w = w} {t = t} {j = j} {β = β} con fr f) g = record
-    { trail = (cov .0, sound-kept (S .last) (blocks-of S m a) after t (λ i r. put-apart (S .rules) (a .slots) j (Some w) i (λ e. fr .free (subst (Is-reason t) e r))) (came .2)
-              , (w, put-here (S .rules) (a .slots) j (Some w), cov .1))
-    ; blocks = put-all (λ b. Stands (S .last) b × Implied S b) (S .rules) (a .slots) j w (g .blocks) (came .0, came .1) }
+step-good S m (learn {st = a} {k = k} {ls = ls} {w = w} {t = t} {j = j} {β = β} con fr f) g = record {
+  trail = (
+    cov .0,
+    sound-kept (S .last) (blocks-of S m a) after t (λ i r. put-apart (S .rules) (a .slots) j (Some w) i (λ e. fr .free (subst (Is-reason t) e r))) (came .2),
+    (w, put-here (S .rules) (a .slots) j (Some w), cov .1),
+  );
+  blocks = put-all (λ b. Stands (S .last) b × Implied S b) (S .rules) (a .slots) j w (g .blocks) (came .0, came .1);
+}
   where
     after : ℕ → Option Ranges
     after = block-at (S .rules) (update eqb (a .slots) j (Some w))
+
     came : Came S (blocks-of S m a) (learnt w t)
     came = conflict-sound S m a g k ls (learnt w t) con
+
     cov : OpenAt (region (S .last) t) β × Covers (region (S .last) t) w β
     cov = forces-covers (S .last) (region (S .last) t) (region-stands (S .last) (blocks-of S m a) t (came .2)) w β f
 

@@ -39,23 +39,28 @@ abbrev pub inside-or-not : (S : Sheet) → Proper S → (a b : Ranges) → Stand
 inside-or-not S pr a b sa sb = all-or-not (λ i. (b .low i ≤ a .low i) × (a .high i ≤ b .high i)) at (S .count) (λ i l. let p = sa i in let q = sb i in let r = pr .beyond i l in omega arith)
   where
     at : (i : ℕ) → Either ((b .low i ≤ a .low i) × (a .high i ≤ b .high i))
-    at i = elim (cases-lt (a .low i) (b .low i))
-        [ inl l ↦ inr (λ h. omega arith)
-        | inr l ↦ elim (cases-lt (b .high i) (a .high i)) [ inl k ↦ inr (λ h. omega arith) | inr k ↦ inl (l, k) ] ]
+    at i = elim (cases-lt (a .low i) (b .low i)) [
+      | inl l ↦ inr (λ h. omega arith)
+      | inr l ↦ elim (cases-lt (b .high i) (a .high i)) [ inl k ↦ inr (λ h. omega arith) | inr k ↦ inl (l, k) ]
+    ]
 
 -- the bound of a block with this place in the order
 abbrev pub at-rank : (last : ℕ → ℕ) (b : Ranges) (ρ : ℕ) → ((β : Bound) × (rank β ≡ ρ) × BoundOf last b β) ⊎ ((β : Bound) → rank β ≡ ρ → ¬ BoundOf last b β)
-at-rank last b ρ = elim (cases-lt (ρ % 2) 1)
-    [ inl even ↦ elim (cases-lt 0 (b .low (ρ / 2)))
-        [ inl l ↦ inl (AtMost (ρ / 2) (pred (b .low (ρ / 2))), omega arith, omega arith)
-        | inr l ↦ inr (no-low even l) ]
-    | inr odd ↦ elim (cases-lt (b .high (ρ / 2)) (last (ρ / 2)))
-        [ inl l ↦ inl (AtLeast (ρ / 2) (suc (b .high (ρ / 2))), omega arith, (refl, l))
-        | inr l ↦ inr (no-high odd l) ] ]
+at-rank last b ρ = elim (cases-lt (ρ % 2) 1) [
+  | inl even ↦ elim (cases-lt 0 (b .low (ρ / 2))) [
+    | inl l ↦ inl (AtMost (ρ / 2) (pred (b .low (ρ / 2))), omega arith, omega arith)
+    | inr l ↦ inr (no-low even l)
+  ]
+  | inr odd ↦ elim (cases-lt (b .high (ρ / 2)) (last (ρ / 2))) [
+    | inl l ↦ inl (AtLeast (ρ / 2) (suc (b .high (ρ / 2))), omega arith, (refl, l))
+    | inr l ↦ inr (no-high odd l)
+  ]
+]
   where
     no-low : ρ % 2 < 1 → b .low (ρ / 2) ≤ 0 → (β : Bound) → rank β ≡ ρ → ¬ BoundOf last b β
     no-low ev z (AtMost s p) e h = let q : s ≡ ρ / 2 = omega arith in let y = ap (b .low) q in omega arith
     no-low ev z (AtLeast s p) e h = omega arith
+
     no-high : 1 ≤ ρ % 2 → last (ρ / 2) ≤ b .high (ρ / 2) → (β : Bound) → rank β ≡ ρ → ¬ BoundOf last b β
     no-high od z (AtMost s p) e h = omega arith
     no-high od z (AtLeast s p) e h = let q : s ≡ ρ / 2 = omega arith in let y = ap (b .high) q in let x = ap last q in omega arith
@@ -68,13 +73,19 @@ rank-below S pr b st (AtLeast s p) h = elim (cases-lt s (S .count)) [ inl l ↦ 
 abbrev pub first-bound : (S : Sheet) → Proper S → (b : Ranges) → Stands (S .last) b → (Q : Bound → Type 0) → ((β : Bound) → Either (Q β))
     → ((β : Bound) × BoundOf (S .last) b β × Q β × ((γ : Bound) → BoundOf (S .last) b γ → Q γ → rank β ≤ rank γ)) ⊎ ((β : Bound) → BoundOf (S .last) b β → ¬ Q β)
 first-bound S pr b st Q dec = ⊎-elim
-    (λ f. let h = f .2 .is in inl (h .0, h .2, h .3, λ γ k q. elim (cases-lt (rank γ) (rank (h .0)))
-        [ inl l ↦ absurd (f .2 .before (rank γ) (let e = h .1 in omega arith) (γ, refl, k, q)) | inr l ↦ l ]))
+    (λ f. let h = f .2 .is in inl (
+      h .0,
+      h .2,
+      h .3,
+      λ γ k q. elim (cases-lt (rank γ) (rank (h .0)))
+          [ inl l ↦ absurd (f .2 .before (rank γ) (let e = h .1 in omega arith) (γ, refl, k, q)) | inr l ↦ l ],
+    ))
     (λ n. inr (λ β k q. n (rank β) (rank-below S pr b st β k) (β, refl, k, q)))
     (first-below At at (2 * S .count))
   where
     At : ℕ → Type 0
     At ρ = (β : Bound) × (rank β ≡ ρ) × BoundOf (S .last) b β × Q β
+
     at : (ρ : ℕ) → Either (At ρ)
     at ρ = ⊎-elim
         (λ h. ⊎-elim (λ q. inl (h .0, h .1, h .2, q)) (λ n. inr (λ k. n (subst Q (bound-same (S .last) b (k .0) (h .0) (k .2) (h .2) (k .1 ∙ sym (h .1))) (k .3)))) (dec (h .0)))
@@ -117,18 +128,22 @@ module _ (S : Sheet) (pr : Proper S) (g : Ranges) (st : Stands (S .last) g) wher
     where
       else : (γ : Bound) → ¬ True g γ → ¬ Open g γ → False g γ
       else γ t o = ⊎-elim (λ h. absurd (t h)) (⊎-elim (λ f. f) (λ h. absurd (o h))) (three γ)
+
       other : (β : Bound) → (γ : Bound) → Either (Open g γ × (rank γ ≢ rank β))
       other β γ = ⊎-elim (λ o. ⊎-elim (λ e. inr (λ h. h .1 e)) (λ n. inl (o, n)) (cases-eq (rank γ) (rank β))) (λ n. inr (λ h. n (h .0))) (open-or-not γ)
+
       two : (β δ : Bound) → BoundOf (S .last) b β → Open g β → BoundOf (S .last) b δ → Open g δ → rank δ ≢ rank β → ¬ Forcing (S .last) g b
-      two β δ kβ oβ kδ oδ n f = elim (cases-eq (rank β) (rank (f .0)))
-          [ inl e ↦ oδ .1 (f .1 .others δ kδ (λ p. n (ap rank p ∙ sym e)))
-          | inr ne ↦ oβ .1 (f .1 .others β kβ (λ p. ne (ap rank p))) ]
+      two β δ kβ oβ kδ oδ n f = elim (cases-eq (rank β) (rank (f .0))) [
+        | inl e ↦ oδ .1 (f .1 .others δ kδ (λ p. n (ap rank p ∙ sym e)))
+        | inr ne ↦ oβ .1 (f .1 .others β kβ (λ p. ne (ap rank p)))
+      ]
+
       alive : ((β : Bound) → BoundOf (S .last) b β → ¬ True g β) → Status (S .last) g b
       alive nt = ⊎-elim
           (λ f. ⊎-elim
-              (λ d. opens (f .0) (record { bound = f .1; open′ = f .2; before = f .3 }) (λ h. nt (h .0) (h .1) (h .2)) (two (f .0) (d .0) (f .1) (f .2) (d .1) (d .2 .0) (d .2 .1)))
-              (λ n. forcing (f .0, record { bound = f .1; open′ = f .2; others = λ γ k ne. else γ (nt γ k) (λ o. n γ k (o, λ e. ne (bound-same (S .last) b γ (f .0) k (f .1) e))) }))
-              (first-bound S pr b sb (λ γ. Open g γ × (rank γ ≢ rank (f .0))) (other (f .0))))
+          (λ d. opens (f .0) (record { bound = f .1; open′ = f .2; before = f .3 }) (λ h. nt (h .0) (h .1) (h .2)) (two (f .0) (d .0) (f .1) (f .2) (d .1) (d .2 .0) (d .2 .1)))
+          (λ n. forcing (f .0, record { bound = f .1; open′ = f .2; others = λ γ k ne. else γ (nt γ k) (λ o. n γ k (o, λ e. ne (bound-same (S .last) b γ (f .0) k (f .1) e))) }))
+          (first-bound S pr b sb (λ γ. Open g γ × (rank γ ≢ rank (f .0))) (other (f .0))))
           (λ n. broken (λ β k. else β (nt β k) (n β k)))
           (first-bound S pr b sb (Open g) open-or-not)
 
@@ -139,16 +154,19 @@ pub record Housed (m : ℕ) (st : State) : Type 0 where
 pub step-housed : (S : Sheet) (m : ℕ) {a c : State} {ls : List Line} → Step S m a ls c → Housed m a → Housed m c
 step-housed S m (force f is h) w = record { inside = w .inside }
 step-housed S m (decide x f is h) w = record { inside = w .inside }
-step-housed S m (learn {st = a} {w = v} {j = j} c fr h) w = record { inside = λ i b e. elim (cases-eq i j)
-    [ inl p ↦ let k = fr .inside in omega arith | inr n ↦ w .inside i b (sym (update-apart (a .slots) j (Some v) i n) ∙ e) ] }
+step-housed S m (learn {st = a} {w = v} {j = j} c fr h) w = record {
+  inside = λ i b e. elim (cases-eq i j)
+      [ inl p ↦ let k = fr .inside in omega arith | inr n ↦ w .inside i b (sym (update-apart (a .slots) j (Some v) i n) ∙ e) ];
+}
 
 pub none-some : {b : Ranges} → _≡_ {A = Option Ranges} None (Some b) → ⊥
 none-some e = let z : _≡_ {A = ℕ} 0 1 = cc in omega arith
 
 pub block-below : (S : Sheet) (m : ℕ) (st : State) → Housed m st → (k : ℕ) (b : Ranges) → blocks-of S m st k ≡ Some b → k < 100 + m
-block-below S m st w k b e = elim (cases-lt k 100)
-    [ inl l ↦ omega arith
-    | inr l ↦ let j = w .inside (k - 100) b (rw (le-ltb k 100 l) at e) in omega arith ]
+block-below S m st w k b e = elim (cases-lt k 100) [
+  | inl l ↦ omega arith
+  | inr l ↦ let j = w .inside (k - 100) b (rw (le-ltb k 100 l) at e) in omega arith
+]
 
 module _ (S : Sheet) (pr : Proper S) (m : ℕ) (st : State) (g : Good S st) (w : Housed m st) where
   abbrev pub at-block : (P : Ranges → Type 0) → ((b : Ranges) → Stands (S .last) b → Either (P b)) → (k : ℕ) → Either ((b : Ranges) × (blocks-of S m st k ≡ Some b) × P b)
@@ -190,14 +208,17 @@ slot-or-full m next t = ⊎-elim
   where
     At : ℕ → Type 0
     At τ = (j : ℕ) × (j < m) × (turn m next j ≡ τ) × (¬ Is-reason t (100 + j))
+
     taken : (j : ℕ) → ¬ (¬ Is-reason t (100 + j)) → Is-reason t (100 + j)
     taken j n = ⊎-elim (λ h. h) (λ h. absurd (n h)) (reason-or-not t (100 + j))
+
     turn-below : (m next j : ℕ) → j < m → turn m next j < 2 * m
     turn-below m next j l = grind (arith, tells)
+
     at : (τ : ℕ) → Either (At τ)
     at τ = ⊎-elim (λ f. inl (f .0, f .1, f .2 .is .0, f .2 .is .1)) (λ n. inr (λ h. n (h .0) (h .1) (h .2, h .3)))
         (first-below (λ j. (turn m next j ≡ τ) × (¬ Is-reason t (100 + j)))
-          (λ j. ⊎-elim (λ e. ⊎-elim (λ r. inr (λ h. h .1 r)) (λ r. inl (e, r)) (reason-or-not t (100 + j))) (λ n. inr (λ h. n (h .0))) (cases-eq (turn m next j) τ)) m)
+        (λ j. ⊎-elim (λ e. ⊎-elim (λ r. inr (λ h. h .1 r)) (λ r. inl (e, r)) (reason-or-not t (100 + j))) (λ n. inr (λ h. n (h .0))) (cases-eq (turn m next j) τ)) m)
 
 -- an analysis comes to an end
 abbrev pub analysis-exists : (S : Sheet) → Proper S → (blocks : ℕ → Option Ranges) → Lawful S blocks → (t : List Entry) (w : Ranges) → Sound (S .last) blocks t → Inside (region (S .last) t) w → Stands (S .last) w
@@ -235,31 +256,36 @@ progress S pr m st g w = ⊎-elim hit quiet (first-block S pr m st g w (λ b. Br
       where
         does : Forces (S .last) (region (S .last) t) v (came .3 .0)
         does = covers-forces (S .last) (region (S .last) t) (region-stands (S .last) (blocks-of S m st) t (came .2)) v (came .3 .0) (came .3 .1) (came .3 .2)
+
         slot : (j : ℕ) → Free-slot m (st .next) t j → Status (S .last) (region (S .last) t) v → Next S m st
         slot j fr (dead d) = absurd (dead-not-forcing S pr (region (S .last) t) (region-stands (S .last) (blocks-of S m st) t (came .2)) v d (came .3 .0, does))
         slot j fr (broken x) = absurd (does .open′ .1 (x (came .3 .0) (does .bound)))
         slot j fr (forcing x) = inl (_, _, learn c fr (x .1))
         slot j fr (opens β f nd nf) = absurd (nf (came .3 .0, does))
+
     hit : ((k : ℕ) × First (Hit S m st) k) → Next S m st
     hit f = let h = f .1 .is in ⊎-elim
         (λ br.
-            let law = g .blocks (f .0) (h .0) (h .1) in
-            let a = analysis-exists S pr (blocks-of S m st) (g .blocks) (st .trail) (h .0) (g .trail) (broken-inside (S .last) (region-of S m st) (stands S m st g) (h .0) br) (law .0) in
-            let c : Conflict S m st (f .0) (a .0) (a .1) = record { first = f .1; block = h .0; there = h .1; broken = br; analysed = a .2 } in
-            conflict (f .0) (a .0) (a .1) c (conflict-sound S m st g (f .0) (a .0) (a .1) c))
+        let law = g .blocks (f .0) (h .0) (h .1) in
+        let a = analysis-exists S pr (blocks-of S m st) (g .blocks) (st .trail) (h .0) (g .trail) (broken-inside (S .last) (region-of S m st) (stands S m st g) (h .0) br) (law .0) in
+        let c : Conflict S m st (f .0) (a .0) (a .1) = record { first = f .1; block = h .0; there = h .1; broken = br; analysed = a .2 } in
+        conflict (f .0) (a .0) (a .1) c (conflict-sound S m st g (f .0) (a .0) (a .1) c))
         (λ fo. inl (_, _, force (f .1) (h .1) (fo .1)))
         (h .2)
+
     opened : ((k : ℕ) → ¬ Hit S m st k) → (k : ℕ) → First (Not-dead S m st) k → (b : Ranges) → blocks-of S m st k ≡ Some b → ¬ Dead (S .last) (region-of S m st) b → Status (S .last) (region-of S m st) b
         → Next S m st
     opened nh k f b e nd (dead d) = absurd (nd d)
     opened nh k f b e nd (broken x) = absurd (nh k (b, e, inl x))
     opened nh k f b e nd (forcing x) = absurd (nh k (b, e, inr x))
     opened nh k f b e nd (opens β o nd′ nf) = inl (_, _, decide nh f e o)
+
     buried : (j : ℕ) (b : Ranges) → blocks-of S m st j ≡ Some b → ((k : ℕ) → ¬ Not-dead S m st k) → Status (S .last) (region-of S m st) b → Dead (S .last) (region-of S m st) b
     buried j b e n (dead d) = d
     buried j b e n (broken x) = absurd (n j (b, e, λ d. dead-not-broken S pr (region-of S m st) (stands S m st g) b d x))
     buried j b e n (forcing x) = absurd (n j (b, e, λ d. dead-not-forcing S pr (region-of S m st) (stands S m st g) b d x))
     buried j b e n (opens β f nd nf) = absurd (n j (b, e, nd))
+
     quiet : ((k : ℕ) → ¬ Hit S m st k) → Next S m st
     quiet nh = ⊎-elim
         (λ f. let h = f .1 .is in opened nh (f .0) (f .1) (h .0) (h .1) (h .2) (status S pr (region-of S m st) (stands S m st g) (h .0) (g .blocks (f .0) (h .0) (h .1) .0)))

@@ -1,4 +1,4 @@
-// The search.
-pub fn nothing() -> u8 {
-    0
-}
+// The search: conflict-driven clause learning over intervals.
+pub mod scan;
+pub mod tally;
+pub mod verdict;
