@@ -1,0 +1,29 @@
+// A tour of the product: one buyer's task, step by step, with what each step answered.
+//
+// A card at a field station takes drives of two makers, and each maker sets limits. The tour
+// places the limits on the scales of the card's settings, shows limits that are refused, and
+// holds one profile against both makers.
+use card::Card;
+use error::TourError;
+use error::TourErrorFromIo;
+use error::TourErrorFromRefusal;
+
+mod card;
+mod error;
+mod holding;
+mod limit;
+mod makers;
+mod placing;
+mod refusing;
+mod words;
+
+fn main(rt: LibcRuntime) -> Result<(), TourError> {
+    println!(
+        rt,
+        "A storage card takes drives of two makers, Alder and Birch.\n"
+    )?;
+    let card = Card::new()?;
+    placing::show(&rt, &card)?;
+    refusing::show(&rt, &card)?;
+    holding::show(&rt, &card)
+}
