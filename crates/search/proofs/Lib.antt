@@ -5,3 +5,5 @@ pub mod Ends
 pub mod Total
 pub mod Feeding
 pub mod Scanning
+pub mod Trailing
+pub mod Looking

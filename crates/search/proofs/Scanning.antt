@@ -18,51 +18,47 @@ use Rattle.blocks.specs.declared.status.Status.the-variants.{Dead as dead, Brok
 use Rattle.blocks.specs.Ranges.{Ranges}
 use Rattle.blocks.specs.Status.{Tells}
 use Rattle.search.specs.declared.scan.Scan.the-variants.{Quiet}
-use Rattle.search.specs.Scans.{holds-of, At, Calm, Buried, First-alive, Scanned}
+use Rattle.blocks.specs.Slots.{joined}
+use Rattle.blocks.proofs.Numbers.{some-same}
+use Rattle.search.specs.Scans.{holding, Calm, Buried, First-alive, Scanned}
+use Rattle.search.proofs.Total.{none-some}
 
 -- what is read at i stands at i
-pub place-at : {P : Type 0} (holds : P → Option Ranges) (ps : List P) (i : ℕ) (p : P) → i < length ps → p ≡ getD ps i p → nth (holds-of holds ps) i ≡ Some (holds p)
-place-at holds ps i p h e = nth-getD (map holds ps) i (holds p) (rw length-map h) ∙ ap Some (getD-map holds ps i p (holds p) h ∙ ap holds (sym e))
+pub place-at : {P : Type 0} (holds : P → Option Ranges) (ps : List P) (i : ℕ) (p : P) → i < length ps → p ≡ getD ps i p → holding holds ps i ≡ holds p
+place-at holds ps i p h e = ap joined (nth-getD (map holds ps) i (holds p) (rw length-map h) ∙ ap Some (getD-map holds ps i p (holds p) h ∙ ap holds (sym e)))
 
-module _ (g : Ranges) (hs : List (Option Ranges)) where
-  -- the first i places are passed
+module _ (g : Ranges) (blocks : ℕ → Option Ranges) where
+  -- the first i are passed
   pub record Passed (i : ℕ) (a : Option ℕ) : Type 0 where
-    pub calm : (k : ℕ) → k < i → Calm g hs k
-    pub alive : First-alive g hs a i
+    pub calm : (k : ℕ) → k < i → Calm g blocks k
+    pub alive : First-alive g blocks a i
 
   pub passed-none : Passed 0 None
   passed-none = record { calm = λ k l. absurd (omega arith); alive = λ k l. absurd (omega arith) }
 
-  not-empty : (b : Ranges) (i : ℕ) → nth hs i ≡ Some None → At hs i b → ⊥
-  not-empty b i e f = let z : _≡_ {A = ℕ} 0 1 = cc in omega arith
-
-  same-block : (b c : Ranges) (i : ℕ) → At hs i b → At hs i c → b ≡ c
-  same-block b c i e f = cc
-
-  alive-more : (a : Option ℕ) (i : ℕ) → First-alive g hs a i → Buried g hs i → First-alive g hs a (i + 1)
-  alive-more None i h d = below-more (Buried g hs) i h d
+  alive-more : (a : Option ℕ) (i : ℕ) → First-alive g blocks a i → Buried g blocks i → First-alive g blocks a (i + 1)
+  alive-more None i h d = below-more (Buried g blocks) i h d
   alive-more (Some j) i h d = (omega arith, h .1, h .2)
 
-  pub passed-empty : (i : ℕ) (a : Option ℕ) → nth hs i ≡ Some None → Passed i a → Passed (i + 1) a
-  passed-empty i a e p = record { calm = below-more (Calm g hs) i (p .calm) (λ b f. absurd (not-empty b i e f)); alive = alive-more a i (p .alive) (λ b f. absurd (not-empty b i e f)) }
+  passed-buried : (i : ℕ) (a : Option ℕ) → Buried g blocks i → Passed i a → Passed (i + 1) a
+  passed-buried i a d p = record { calm = below-more (Calm g blocks) i (p .calm) (λ b f. inl (d b f)); alive = alive-more a i (p .alive) d }
 
-  module _ (i : ℕ) (b : Ranges) (is : At hs i b) where
+  pub passed-empty : (i : ℕ) (a : Option ℕ) → blocks i ≡ None → Passed i a → Passed (i + 1) a
+  passed-empty i a e = passed-buried i a (λ b f. absurd (none-some (sym e ∙ f)))
+
+  module _ (i : ℕ) (b : Ranges) (is : blocks i ≡ Some b) where
     pub passed-dead : (a : Option ℕ) → Tells g b dead → Passed i a → Passed (i + 1) a
-    passed-dead a d p =
-        let here : Buried g hs i = λ c f. subst (λ (x : Ranges). Tells g x dead) (same-block b c i is f) d in
-        record { calm = below-more (Calm g hs) i (p .calm) (λ c f. inl (here c f)); alive = alive-more a i (p .alive) here }
+    passed-dead a d = passed-buried i a (λ c f. subst (λ (x : Ranges). Tells g x dead) (some-same is f) d)
 
-    calm-here : Tells g b undecided → Calm g hs i
-    calm-here o c f = inr (subst (λ (x : Ranges). Tells g x undecided) (same-block b c i is f) o)
+    calm-here : Tells g b undecided → Calm g blocks i
+    calm-here o c f = inr (subst (λ (x : Ranges). Tells g x undecided) (some-same is f) o)
 
     pub passed-open : (a : Option ℕ) → Tells g b undecided → Passed i a → Passed (i + 1) (orOther a (Some i))
-    passed-open None o p = record { calm = below-more (Calm g hs) i (p .calm) (calm-here o); alive = (omega arith, (b, is, o), p .alive) }
-    passed-open (Some j) o p = record { calm = below-more (Calm g hs) i (p .calm) (calm-here o); alive = let a = p .alive in (omega arith, a .1, a .2) }
+    passed-open None o p = record { calm = below-more (Calm g blocks) i (p .calm) (calm-here o); alive = (omega arith, (b, is, o), p .alive) }
+    passed-open (Some j) o p = record { calm = below-more (Calm g blocks) i (p .calm) (calm-here o); alive = let a = p .alive in (omega arith, a .1, a .2) }
 
-  pub passed-all : (a : Option ℕ) → Passed (length hs) a → Scanned g hs (Quiet a)
-  passed-all a p = ((λ k. elim (cases-lt k (length hs))
-      [ inl l ↦ p .calm k l
-      | inr l ↦ λ b f. let n = nth-past hs k l in let z : _≡_ {A = ℕ} 0 1 = cc in absurd (omega arith) ]), p .alive)
+  pub passed-all : (n : ℕ) (a : Option ℕ) → Passed n a → Scanned g blocks n (Quiet a)
+  passed-all n a p = (p .calm, p .alive)
 
 -- a status that is none of the others is open
 pub only-open : (s : Status) → (s ≡ dead → ⊥) → (s ≡ broken → ⊥) → ((t : ℕ × ℕ × ℕ) → s ≡ forcing t → ⊥) → s ≡ undecided

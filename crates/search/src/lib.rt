@@ -1,4 +1,7 @@
 // The search: conflict-driven clause learning over intervals.
+pub mod course;
+pub mod numbered;
 pub mod scan;
 pub mod tally;
+pub mod trail;
 pub mod verdict;

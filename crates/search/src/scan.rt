@@ -1,11 +1,12 @@
 ghost use mathlib.Core.Path.{_≡_};
+ghost use lib.ListN.{length};
 ghost use Rattle.std.specs.Options.{mapped};
 ghost use Rattle.std.specs.declared.option.Option.{Option};
 ghost use Rattle.std.specs.declared.option.Option.the-variants.{Some, None};
 ghost use Rattle.blocks.specs.Ranges.{Ranges};
 ghost use Rattle.blocks.specs.Views.{ranges, block-of};
 ghost use Rattle.blocks.specs.Slots.{slot-holds};
-ghost use Rattle.search.specs.Scans.{holds-of, Scanned};
+ghost use Rattle.search.specs.Scans.{holding, Scanned};
 use blocks::block::Block;
 use blocks::slot::Slot;
 use blocks::standing::Standing;
@@ -51,7 +52,7 @@ pub enum Scan {
 
 // Goes over places in order, up to the first block that is broken or forcing in a region.
 pub fn scan_over<P: Place>(region: &Block, places: &[P]) -> Scan
-    ensures { λ r. ⌜ Scanned (ranges (now (region .entry))) (holds-of (P·Place .holds) (now (places .entry))) r ⌝ }
+    ensures { λ r. ⌜ Scanned (ranges (now (region .entry))) (holding (P·Place .holds) (now (places .entry))) (length (now (places .entry))) r ⌝ }
 {
     let mut alive = None;
     'places: for (i, place) in places.iter().enumerate() {
