@@ -7,3 +7,5 @@ pub mod Feeding
 pub mod Scanning
 pub mod Trailing
 pub mod Looking
+pub mod Properly
+pub mod Analysing

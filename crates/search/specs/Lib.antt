@@ -5,4 +5,5 @@ pub mod Scans
 pub mod Numbers
 pub mod Trails
 pub mod Courses
+pub mod Analyses
 pub mod Solve

@@ -1,4 +1,5 @@
 // The search: conflict-driven clause learning over intervals.
+pub mod analyse;
 pub mod course;
 pub mod numbered;
 pub mod scan;

@@ -17,9 +17,9 @@ use blocks::standing::Standing;
 
 // The blocks of a search by their numbers: rule i is block i, slot j is block 100 + j.
 #[derive(Clone, Copy)]
-pub struct Numbered<'a> {
-    pub rules: &'a [Standing],
-    pub filled: &'a [Slot],
+pub struct Numbered<'r, 's> {
+    pub rules: &'r [Standing],
+    pub filled: &'s [Slot],
 }
 
 // A slot's place as the number of its block.
@@ -33,7 +33,7 @@ fn block_of_slot(slot: Option<usize>) -> Option<usize>
     }
 }
 
-impl Numbered<'_> {
+impl Numbered<'_, '_> {
     // The block of a number.
     pub fn at(&self, block: usize) -> Option<Block>
         ensures { λ r. ⌜ mapped ranges r ≡ numbered (value (now (self .entry) .rules)) (value (now (self .entry) .filled)) block ⌝ }
