@@ -27,11 +27,8 @@ use Rattle.search.specs.Tallies.{Feed, fed, fed-all}
 use Rattle.search.specs.Trails.{reasoned, entry-of, no-entry, trail-below, trail-of, Keeps-ends}
 use Rattle.search.specs.Analyses.{Ready, Analysed}
 use Rattle.search.proofs.Feeding.{fed-more}
+use Rattle.search.proofs.Trailing.{reasoned-bound}
 use Rattle.search.proofs.Sound.{Sound, Good, sound-open, region-stands, steps-good, good-start, resolved}
-
-reasoned-bound : (β : Bound) (r : Reason) → bound-of (reasoned β r) ≡ β
-reasoned-bound β Decided = refl
-reasoned-bound β (Forced k) = refl
 
 -- the entries from the n-th backward, and what is left of the analysis
 module _ {M : Type 0} (step : M → Line → Step M) (S : Sheet) (pr : Proper S) (slots : ℕ → Option Ranges) (t : Trail) (w₀ : Ranges) (f₀ : Feed M) where

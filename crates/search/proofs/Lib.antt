@@ -9,3 +9,5 @@ pub mod Trailing
 pub mod Looking
 pub mod Properly
 pub mod Analysing
+pub mod Joining
+pub mod Keeping

@@ -16,6 +16,10 @@ use Rattle.search.specs.declared.trail.TrailEntry.{TrailEntry}
 use Rattle.search.specs.Search.{Entry, decided, forced, bound-of, region, Is-reason, turn, Free-slot}
 use Rattle.search.specs.Trails.{reasoned, entry-of, no-entry, trail-below, Keeps-ends}
 
+pub reasoned-bound : (β : Bound) (r : Reason) → bound-of (reasoned β r) ≡ β
+reasoned-bound β Decided = refl
+reasoned-bound β (Forced k) = refl
+
 -- reasons
 reason-first : (β : Bound) (r : Reason) (t : List Entry) (k : ℕ) → r ≡ Forced k → Is-reason (reasoned β r ∷ t) k
 reason-first β Decided t k e = let z : _≡_ {A = ℕ} 0 1 = cc in absurd (omega arith)

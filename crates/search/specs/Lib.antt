@@ -6,4 +6,5 @@ pub mod Numbers
 pub mod Trails
 pub mod Courses
 pub mod Analyses
+pub mod Moves
 pub mod Solve
