@@ -11,3 +11,4 @@ pub mod Properly
 pub mod Analysing
 pub mod Joining
 pub mod Keeping
+pub mod Conflicting
