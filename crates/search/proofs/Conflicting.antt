@@ -32,7 +32,7 @@ use Rattle.search.specs.Tallies.{Feed, fed, fed-all}
 use Rattle.search.specs.Trails.{trail-below, trail-of, Keeps-ends}
 use Rattle.search.specs.Courses.{state-of}
 use Rattle.search.specs.Analyses.{Ready, Analysed, outcome-of}
-use Rattle.search.specs.Moves.{Kept, Going, Goes, Stops, Breaks-first, Learnt, Keeps, Keeps-in, Keeps-none}
+use Rattle.search.specs.Moves.{Kept, Going, Goes, Stops, Moved, Breaks-first, Learnt, Keeps, Keeps-in, Keeps-none}
 use Rattle.search.proofs.Feeding.{fed-more}
 use Rattle.search.proofs.Sound.{Sound, Good, Came, region-stands, steps-good, good-start, conflict-sound}
 use Rattle.search.proofs.Keeping.{slot-take-past}
@@ -123,7 +123,7 @@ module _ {M : Type 0} (step : M → Line → Sink-step M) (S : Sheet) (pr : Prop
           lines-told : (j : ℕ) (f₃ : Feed M) → f₃ ≡ fed step f₂ (k-line (100 + j)) → f₃ ≡ fed-all step f (t-line k ∷ (a .lines ++ k-line (100 + j) ∷ []))
           lines-told j f₃ e = e ∙ ap (λ (x : Feed M). fed step x (k-line (100 + j))) (a .told) ∙ sym (fed-more step (fed step f (t-line k)) (a .lines) (k-line (100 + j) ∷ []))
 
-          pub goes-learn : (c₃ : Course) (area₃ : List Slot) (f₃ : Feed M) → Keeps-in step S w′ c₂ area f₂ c₃ area₃ f₃ → Goes step S c area f c₃ area₃ f₃
+          goes-learn : (c₃ : Course) (area₃ : List Slot) (f₃ : Feed M) → Keeps-in step S w′ c₂ area f₂ c₃ area₃ f₃ → Goes step S c area f c₃ area₃ f₃
           goes-learn c₃ area₃ f₃ kin = record {
             kept = kin .kept;
             lines = t-line k ∷ (a .lines ++ k-line (100 + kin .slot) ∷ []);
@@ -135,10 +135,15 @@ module _ {M : Type 0} (step : M → Line → Sink-step M) (S : Sheet) (pr : Prop
             untouched = kin .untouched;
           }
 
-          pub stops-full : (e : Ended) (area₃ : List Slot) (f₃ : Feed M) → Keeps-none c₂ area f₂ e area₃ f₃ → Stops step S c area f e area₃ f₃
+          stops-full : (e : Ended) (area₃ : List Slot) (f₃ : Feed M) → Keeps-none c₂ area f₂ e area₃ f₃ → Stops step S c area f e area₃ f₃
           stops-full e area₃ f₃ none = subst (λ (x : Ended). Stops step S c area f x area₃ f₃) (sym (none .is)) (record {
             lines = t-line k ∷ a .lines;
             ends = full (conflict (Before n) a) (λ j l. subst (λ (t : List Entry). Is-reason t (100 + j)) cut (none .reasons j l));
             told = none .told ∙ a .told;
             same = none .same;
           })
+
+          -- so, whichever came of keeping it
+          pub moved-by : (r : Option Ended) (c₃ : Course) (area₃ : List Slot) (f₃ : Feed M) → Keeps step S w′ c₂ area f₂ r c₃ area₃ f₃ → Moved step S c area f r c₃ area₃ f₃
+          moved-by None c₃ area₃ f₃ k = goes-learn c₃ area₃ f₃ k
+          moved-by (Some e) c₃ area₃ f₃ k = stops-full e area₃ f₃ k
