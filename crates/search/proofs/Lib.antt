@@ -12,3 +12,5 @@ pub mod Analysing
 pub mod Joining
 pub mod Keeping
 pub mod Conflicting
+pub mod Listing
+pub mod Stepping

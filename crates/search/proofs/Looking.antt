@@ -1,13 +1,13 @@
 -- Blocks by their numbers: those of the rules below 100, those of the slots from there on.
-use mathlib.Core.Path.{_≡_, refl, sym, _∙_, ap, subst}
+use mathlib.Core.Path.{_≡_, refl, sym, _∙_, ap, subst, subst₂}
 use mathlib.Core.Logic.{_⊎_, inl, inr}
 use mathlib.Core.List.{List, [], _∷_, map}
 use Prim.Native.Nat.{ℕ, zero, suc, _+_, _-_, _≤_, _<_}
 use native.Mathlib.Omega.{arith}
-use lib.ListN.{length, getD, length-map}
+use lib.ListN.{length, getD, take, length-map}
 use Rattle.std.specs.shelf.Maps.{nth}
 use Rattle.std.proofs.shelf.Maps.{nth-getD, nth-past}
-use Rattle.std.proofs.shelf.Lists.{getD-map}
+use Rattle.std.proofs.shelf.Lists.{getD-map, length-take-le}
 use Rattle.std.proofs.shelf.Tests.{cases-lt, lt-ltb, le-ltb}
 use Rattle.std.specs.Options.{orOther, Cases}
 use Rattle.std.specs.declared.option.Option.{Option}
@@ -37,6 +37,17 @@ module _ (rules : List Standing) (filled : List Slot) where
 
   pub slot-number : (j : ℕ) → numbered rules filled (100 + j) ≡ slot-at filled j
   slot-number j = in-slots (100 + j) (omega arith) ∙ ap (slot-at filled) (omega arith)
+
+-- the rules read are the problem's, and the part read is what is filled
+pub read-here : (rules rules′ : List Standing) (area : List Slot) (n : ℕ) → rules ≡ rules′ → numbered rules (take (n - 0) area) ≡ numbered rules′ (take n area)
+read-here rules rules′ area n e = let z : n - 0 ≡ n = omega arith in λ i. numbered (e i) (take (z i) area)
+
+-- a scan of them goes up to the last that is filled
+pub scanned-here : (rules rules′ : List Standing) (area : List Slot) (n : ℕ) → rules ≡ rules′ → n ≤ length area → (g : Ranges) (s : Scan) → Scanned g (numbered rules (take (n - 0) area)) (100 + length (take (n - 0) area)) s → Scanned g (numbered rules′ (take n area)) (100 + n) s
+scanned-here rules rules′ area n e l g s h =
+    let z : n - 0 ≡ n = omega arith in
+    let len : 100 + length (take (n - 0) area) ≡ 100 + n = ap (λ (k : ℕ). 100 + length (take k area)) z ∙ ap (λ (k : ℕ). 100 + k) (length-take-le n area l) in
+    subst₂ (λ (f : ℕ → Option Ranges) (k : ℕ). Scanned g f k s) (read-here rules rules′ area n e) len h
 
 pub rule-item : (rules : List Standing) (k : ℕ) (d : Standing) → k < length rules → nth (blocks rules) k ≡ Some (block-of (getD rules k d))
 rule-item rules k d l = nth-getD (map block-of rules) k (block-of d) (rw length-map l) ∙ ap Some (getD-map block-of rules k d (block-of d) l)

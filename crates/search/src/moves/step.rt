@@ -37,8 +37,10 @@ pub(crate) fn step_on<K: Sink>(
             course.join(bound_told(bound), Reason::Forced(number));
             None
         }
-        Scan::Quiet(None) => Some(Ended::Found),
-        Scan::Quiet(Some(number)) => {
+        Scan::Quiet(alive) => {
+            let Some(number) = alive else {
+                return Some(Ended::Found);
+            };
             decide(&blocks, number, course);
             None
         }

@@ -26,14 +26,11 @@ use Rattle.search.specs.Analyses.{Ready, Analysed}
 use Rattle.search.specs.Moves.{Moved, Keeps, Learnt}
 use Rattle.search.specs.Numbers.{numbered}
 use Rattle.search.specs.Tallies.{Feed, feed, fed}
+use Rattle.search.proofs.Looking.{read-here}
 use Rattle.search.proofs.Properly.{posed-proper}
 use Rattle.search.proofs.Total.{none-some}
 use Rattle.search.proofs.Conflicting.{ready, stops-over, learnt-here, moved-by}
 use Rattle.search.proofs.moves.learn.conflict.Needs as need
-
--- the rules read are the problem's, and the part read is what is filled
-here : (rules rules′ : List Standing) (area : List Slot) (n : ℕ) → rules ≡ rules′ → (k : ℕ) → numbered rules (take (n - 0) area) k ≡ numbered rules′ (take n area) k
-here rules rules′ area n e k = let z : n - 0 ≡ n = omega arith in λ i. numbered (e i) (take (z i) area) k
 
 -- the analysis, of what is filled and after line t
 taken : {M : Type 0} (step : M → Line → Step M) (S : Sheet) (area : List Slot) (n : ℕ) (t : Trail) (w : Ranges) (f₁ f : Feed M) (r : Fell) (g′ w′ : Ranges) (f₂ : Feed M) → f₁ ≡ f
@@ -42,14 +39,14 @@ taken step S area n t w f₁ f r g′ w′ f₂ e a = let z : n - 0 ≡ n = omeg
 
 pub unreachable-requires : need.unreachable-requires
 unreachable-requires g c κs =
-    none-some (c .in-rest .ensures tt ∙ here _ _ (c .args .area .now) (c .args .course .now .filled) (c .rules .ensures) (c .args .number) ∙ c .pre .1 .1 .1)
+    none-some (c .in-rest .ensures tt ∙ ap (λ (f : ℕ → Option Ranges). f (c .args .number)) (read-here _ _ (c .args .area .now) (c .args .course .now .filled) (c .rules .ensures)) ∙ c .pre .1 .1 .1)
 
 pub analyse-requires : need.analyse-requires
 analyse-requires g c κs =
     let course = c .args .course .now in
     let area = c .args .area .now in
     let z : course .filled - 0 ≡ course .filled = omega arith in
-    let is = c .in-Some .ensures tt ∙ here _ _ area (course .filled) (c .rules .ensures) (c .args .number) in
+    let is = c .in-Some .ensures tt ∙ ap (λ (f : ℕ → Option Ranges). f (c .args .number)) (read-here _ _ area (course .filled) (c .rules .ensures)) in
     let p = posed (c .args .problem .now) in
     subst (λ (n : ℕ). Ready p (slot-at (take n area)) (course .trail) (ranges (course .region)) (ranges (c .in-Some .work))) (sym z)
         (ready (g .K·Sink .step) p (posed-proper (c .args .problem .now)) course area (c .pre .0) (c .args .number) (c .pre .1) (ranges (c .in-Some .work)) is)
@@ -60,7 +57,7 @@ keep-requires g c κs =
     let area = c .args .area .now in
     let p = posed (c .args .problem .now) in
     let step = g .K·Sink .step in
-    let is = c .in-Some .ensures tt ∙ here _ _ area (course .filled) (c .rules .ensures) (c .args .number) in
+    let is = c .in-Some .ensures tt ∙ ap (λ (f : ℕ → Option Ranges). f (c .args .number)) (read-here _ _ area (course .filled) (c .rules .ensures)) in
     let f = feed (c .args .tally .now) (g .K·Sink .model (c .args .sink .now)) in
     let f₁ = feed (c .send .last .self) (g .K·Sink .model (c .send .last .sink)) in
     let f₂ = feed (c .analyse .last .tally) (g .K·Sink .model (c .analyse .last .sink)) in
@@ -79,7 +76,7 @@ returns-in-Over g c =
     let area = c .args .area .now in
     let p = posed (c .args .problem .now) in
     let step = g .K·Sink .step in
-    let is = c .in-Some .ensures tt ∙ here _ _ area (course .filled) (c .rules .ensures) (c .args .number) in
+    let is = c .in-Some .ensures tt ∙ ap (λ (f : ℕ → Option Ranges). f (c .args .number)) (read-here _ _ area (course .filled) (c .rules .ensures)) in
     let f = feed (c .args .tally .now) (g .K·Sink .model (c .args .sink .now)) in
     let f₁ = feed (c .send .last .self) (g .K·Sink .model (c .send .last .sink)) in
     let f₂ = feed (c .analyse .last .tally) (g .K·Sink .model (c .analyse .last .sink)) in
@@ -99,7 +96,7 @@ returns-in-Before g c =
     let area = c .args .area .now in
     let p = posed (c .args .problem .now) in
     let step = g .K·Sink .step in
-    let is = c .in-Some .ensures tt ∙ here _ _ area (course .filled) (c .rules .ensures) (c .args .number) in
+    let is = c .in-Some .ensures tt ∙ ap (λ (f : ℕ → Option Ranges). f (c .args .number)) (read-here _ _ area (course .filled) (c .rules .ensures)) in
     let f = feed (c .args .tally .now) (g .K·Sink .model (c .args .sink .now)) in
     let f₁ = feed (c .send .last .self) (g .K·Sink .model (c .send .last .sink)) in
     let f₂ = feed (c .analyse .last .tally) (g .K·Sink .model (c .analyse .last .sink)) in
