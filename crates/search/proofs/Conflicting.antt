@@ -69,8 +69,8 @@ module _ {M : Type 0} (step : M → Line → Sink-step M) (S : Sheet) (pr : Prop
       conflict : (r : Fell) (a : Analysed step S (slot-at (take (c .filled) area)) (c .trail) w (fed step f (t-line k)) r g′ w′ f₂) → Conflict S (length area) (state-of c area) k (a .lines) (outcome-of (c .trail) w′ r)
       conflict r a = record { first = breaks .0; block = w; there = sym is; broken = subst (λ (g : Ranges). Broken (S .last) g w) (going .kept .left) (ready .broken); analysed = a .analysis }
 
-      pub stops-over : Analysed step S (slot-at (take (c .filled) area)) (c .trail) w (fed step f (t-line k)) Over g′ w′ f₂ → Stops step S c area f Nothing area f₂
-      stops-over a = record { lines = t-line k ∷ a .lines; ends = run-out (conflict Over a); told = a .told; same = refl }
+      pub stops-over : Analysed step S (slot-at (take (c .filled) area)) (c .trail) w (fed step f (t-line k)) Over g′ w′ f₂ → (c₃ : Course) → Stops step S c area f Nothing c₃ area f₂
+      stops-over a c₃ = record { lines = t-line k ∷ a .lines; ends = run-out (conflict Over a); told = a .told; same = refl }
 
       module _ (n : ℕ) (a : Analysed step S (slot-at (take (c .filled) area)) (c .trail) w (fed step f (t-line k)) (Before n) g′ w′ f₂) where
         came : Came S (blocks-of S (length area) (state-of c area)) (learnt w′ (trail-below (c .trail .entries) n))
@@ -135,8 +135,8 @@ module _ {M : Type 0} (step : M → Line → Sink-step M) (S : Sheet) (pr : Prop
             untouched = kin .untouched;
           }
 
-          stops-full : (e : Ended) (area₃ : List Slot) (f₃ : Feed M) → Keeps-none c₂ area f₂ e area₃ f₃ → Stops step S c area f e area₃ f₃
-          stops-full e area₃ f₃ none = subst (λ (x : Ended). Stops step S c area f x area₃ f₃) (sym (none .is)) (record {
+          stops-full : (e : Ended) (c₃ : Course) (area₃ : List Slot) (f₃ : Feed M) → Keeps-none c₂ area f₂ e area₃ f₃ → Stops step S c area f e c₃ area₃ f₃
+          stops-full e c₃ area₃ f₃ none = subst (λ (x : Ended). Stops step S c area f x c₃ area₃ f₃) (sym (none .is)) (record {
             lines = t-line k ∷ a .lines;
             ends = full (conflict (Before n) a) (λ j l. subst (λ (t : List Entry). Is-reason t (100 + j)) cut (none .reasons j l));
             told = none .told ∙ a .told;
@@ -146,4 +146,4 @@ module _ {M : Type 0} (step : M → Line → Sink-step M) (S : Sheet) (pr : Prop
           -- so, whichever came of keeping it
           pub moved-by : (r : Option Ended) (c₃ : Course) (area₃ : List Slot) (f₃ : Feed M) → Keeps step S w′ c₂ area f₂ r c₃ area₃ f₃ → Moved step S c area f r c₃ area₃ f₃
           moved-by None c₃ area₃ f₃ k = goes-learn c₃ area₃ f₃ k
-          moved-by (Some e) c₃ area₃ f₃ k = stops-full e area₃ f₃ k
+          moved-by (Some e) c₃ area₃ f₃ k = stops-full e c₃ area₃ f₃ k

@@ -14,3 +14,4 @@ pub mod Keeping
 pub mod Conflicting
 pub mod Listing
 pub mod Stepping
+pub mod Running

@@ -113,7 +113,7 @@ module _ (S : Sheet) (pr : Proper S) (c : Course) (area : List Slot) (going : Go
     pub no-hit : (j : ℕ) → ¬ Hit S (length area) (state-of c area) j
     no-hit j h = elim (cases-lt j (100 + c .filled)) [ inl l ↦ calm-not-hit j (quiet-here .0 j l) h | inr l ↦ past j l (h .0) (h .1) ]
 
-  pub stops-found : {M : Type 0} (step : M → Line → Sink-step M) (f : Feed M) → Scanned (ranges (c .region)) at (100 + c .filled) (quiet None) → Stops step S c area f Found area f
+  pub stops-found : {M : Type 0} (step : M → Line → Sink-step M) (f : Feed M) → Scanned (ranges (c .region)) at (100 + c .filled) (quiet None) → Stops step S c area f Found c area f
   stops-found step f s₀ = record {
     lines = [];
     ends = subst (λ (g : Ranges). Ends S (length area) (state-of c area) [] (found g)) (sym (going .kept .left)) (all-dead (no-hit None s₀) dead-all);

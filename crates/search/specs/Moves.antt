@@ -51,21 +51,22 @@ pub record Goes {M : Type 0} (step : M → Line → Sink-step M) (S : Sheet) (c 
   pub more : c .filled ≤ c′ .filled
   pub untouched : (j : ℕ) → c′ .filled ≤ j → nth area′ j ≡ nth area j
 
-abbrev pub verdict-at : Course → Ended → Verdict
-verdict-at c Found = found (ranges (c .region))
-verdict-at c Nothing = none
-verdict-at c Full = no-slot
+-- the verdict of an end, with the region that the trail leaves
+abbrev pub verdict-at : Ranges → Ended → Verdict
+verdict-at g Found = found g
+verdict-at g Nothing = none
+verdict-at g Full = no-slot
 
 -- or it ends, and leaves the area as it is
-pub record Stops {M : Type 0} (step : M → Line → Sink-step M) (S : Sheet) (c : Course) (area : List Slot) (f : Feed M) (e : Ended) (area′ : List Slot) (f′ : Feed M) : Type 0 where
+pub record Stops {M : Type 0} (step : M → Line → Sink-step M) (S : Sheet) (c : Course) (area : List Slot) (f : Feed M) (e : Ended) (c′ : Course) (area′ : List Slot) (f′ : Feed M) : Type 0 where
   pub lines : List Line
-  pub ends : Ends S (length area) (state-of c area) lines (verdict-at c e)
+  pub ends : Ends S (length area) (state-of c area) lines (verdict-at (ranges (c′ .region)) e)
   pub told : f′ ≡ fed-all step f lines
   pub same : area′ ≡ area
 
 abbrev pub Moved : {M : Type 0} → (M → Line → Sink-step M) → Sheet → Course → List Slot → Feed M → Option Ended → Course → List Slot → Feed M → Type 0
 Moved step S c area f None c′ area′ f′ = Goes step S c area f c′ area′ f′
-Moved step S c area f (Some e) c′ area′ f′ = Stops step S c area f e area′ f′
+Moved step S c area f (Some e) c′ area′ f′ = Stops step S c area f e c′ area′ f′
 
 -- block k is the first that is broken or forcing, and broken
 abbrev pub Breaks-first : Sheet → Course → List Slot → ℕ → Type 0

@@ -25,6 +25,7 @@ use Rattle.search.specs.declared.verdict.Answer.the-variants.{Found, Nothing}
 use Rattle.search.specs.declared.verdict.Verdict.{Verdict as Answered}
 use Rattle.search.specs.Search.{State, cold, Verdict, found, none, no-slot, Run}
 use Rattle.search.specs.Sends.{counted, Sends}
+use Rattle.search.specs.Tallies.{Feed, fed-all}
 
 -- a search uses at most the first 4,096 slots of its area
 abbrev pub used : ℕ → ℕ
@@ -39,6 +40,10 @@ verdict-of Nothing = none
 abbrev pub Left-in : List Slot → List Slot → (ℕ → Option Ranges) → Type 0
 Left-in before after slots = (j : ℕ) → Cases (slots j) (nth after j ≡ nth before j) (λ b. slot-at after j ≡ Some b)
 
+-- the filled slots are the first ones
+abbrev pub Filled-first : (ℕ → Option Ranges) → Type 0
+Filled-first slots = (f : ℕ) × ((j : ℕ) → Cases (slots j) (f ≤ j) (λ b. j < f))
+
 -- A run of the search from a cold start, with what came of it: the lines made, the end, what the area holds, and what the
 -- sink was sent and answered.
 pub record Searched {M : Type 0} (step : M → Line → Step M) (S : Sheet) (before after : List Slot) (from to : M) (v : Verdict) (count : ℕ) (stop : Option (ℕ × ℕ)) : Type 0 where
@@ -48,6 +53,17 @@ pub record Searched {M : Type 0} (step : M → Line → Step M) (S : Sheet) (bef
   pub made : count ≡ counted (length lines)
   pub sent : List Line
   pub sends : Sends step from lines sent stop to
+  pub first : Filled-first (end .slots)
+  pub left : Left-in before after (end .slots)
+  pub whole : length after ≡ length before
+
+-- the same over the slots that are used, line by line, before it is told as a verdict
+pub record Ran {M : Type 0} (step : M → Line → Step M) (S : Sheet) (before after : List Slot) (f f′ : Feed M) (v : Verdict) : Type 0 where
+  pub lines : List Line
+  pub end : State
+  pub run : Run S (length before) cold lines v end
+  pub told : f′ ≡ fed-all step f lines
+  pub first : Filled-first (end .slots)
   pub left : Left-in before after (end .slots)
   pub whole : length after ≡ length before
 

@@ -4,6 +4,7 @@ pub mod course;
 pub mod moves;
 pub mod numbered;
 pub mod scan;
+pub mod solve;
 pub mod tally;
 pub mod trail;
 pub mod verdict;

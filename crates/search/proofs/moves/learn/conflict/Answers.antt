@@ -86,7 +86,7 @@ returns-in-Over g c =
     let w′ = ranges (c .analyse .last .work) in
     record {
       moved = stops-over step p (posed-proper (c .args .problem .now)) course area (c .pre .0) (c .args .number) (c .pre .1) w is f f₂ g′ w′
-          (taken step p area (course .filled) (course .trail) w f₁ (fed step f (t-line (c .args .number))) Over g′ w′ f₂ sent (c .in-Over .ensures tt .did));
+          (taken step p area (course .filled) (course .trail) w f₁ (fed step f (t-line (c .args .number))) Over g′ w′ f₂ sent (c .in-Over .ensures tt .did)) course;
       kept = c .in-Over .ensures tt .kept ∙ c .send .ensures .kept;
     }
 
