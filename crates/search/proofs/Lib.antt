@@ -15,3 +15,4 @@ pub mod Conflicting
 pub mod Listing
 pub mod Stepping
 pub mod Running
+pub mod Solving
