@@ -1,6 +1,8 @@
 // One profile, held against the limits of both makers.
 use crate::card::Card;
 use crate::card::Setting;
+use crate::choice::CANDIDATE;
+use crate::choice::Choice;
 use crate::error::TourError;
 use crate::error::TourErrorFromIo;
 use crate::error::TourErrorFromRefusal;
@@ -22,22 +24,8 @@ use scales::scale::Scale;
 use scales::whole::WholeScale;
 use scales::window::WindowScale;
 
-// One value for each setting.
-#[derive(Clone, Copy)]
-struct Choice {
-    depth: i32,
-    timeout: i32,
-    temperature: f32,
-    grade: u8,
-}
-
 pub(crate) fn show(rt: &impl Print, card: &Card) -> Result<(), TourError> {
-    let choice = Choice {
-        depth: 24,
-        timeout: 25,
-        temperature: 70.5,
-        grade: b'M',
-    };
+    let choice = CANDIDATE;
     println!(rt, "\nA profile to try:")?;
     show_value(rt, &card.depth, choice.depth)?;
     show_value(rt, &card.timeout, choice.timeout)?;

@@ -2,19 +2,25 @@
 //
 // A card at a field station takes drives of two makers, and each maker sets limits. The tour
 // places the limits on the scales of the card's settings, shows limits that are refused, and
-// holds one profile against both makers.
+// holds one profile against both makers. Then it admits the makers' rules, shows the block of each
+// and rules that are refused, and names the rules that the profile breaks.
+use blocks::ruleset::RuleSet;
 use card::Card;
 use error::TourError;
 use error::TourErrorFromIo;
 use error::TourErrorFromRefusal;
 
+mod admitting;
+mod breaking;
 mod card;
+mod choice;
 mod error;
 mod holding;
 mod limit;
 mod makers;
 mod placing;
 mod refusing;
+mod rules;
 mod words;
 
 fn main(rt: LibcRuntime) -> Result<(), TourError> {
@@ -25,5 +31,8 @@ fn main(rt: LibcRuntime) -> Result<(), TourError> {
     let card = Card::new()?;
     placing::show(&rt, &card)?;
     refusing::show(&rt, &card)?;
-    holding::show(&rt, &card)
+    holding::show(&rt, &card)?;
+    let mut rules = RuleSet::new(card.lasts);
+    admitting::show(&rt, &card, &mut rules)?;
+    breaking::show(&rt, &card, &rules)
 }

@@ -66,7 +66,7 @@ pub impl<V: Show> fmt::Display for LimitWords<V> as LimitWordsDisplay {
     }
 }
 
-// A refusal in full: its number, its layer and its reason.
+// A refusal in full: its number, its layer, its place and its reason.
 #[derive(Clone, Copy)]
 pub(crate) struct RefusalWords(pub(crate) Refusal);
 
@@ -75,7 +75,11 @@ pub impl fmt::Display for RefusalWords as RefusalWordsDisplay {
         let stop = self.0.stop;
         let number = stop.number();
         let layer = stop.layer().name();
+        let place = self.0.place;
         let reason = stop.reason();
-        write!(f, "refused, number {number}, layer {layer}: {reason}")
+        write!(
+            f,
+            "refused, number {number}, layer {layer}, place {place}: {reason}"
+        )
     }
 }
