@@ -1,0 +1,3 @@
+pub mod Deciding
+pub mod Justified
+pub mod Lettered
