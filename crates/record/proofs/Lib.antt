@@ -1,3 +1,4 @@
-pub mod Deciding
 pub mod Justified
 pub mod Lettered
+pub mod Deciding
+pub mod Putting

@@ -1,3 +1,4 @@
 // The record of the grounds: the ten bytes of a line, and reading them back.
 pub mod bytes;
 pub mod read;
+pub mod sink;
