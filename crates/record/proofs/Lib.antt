@@ -2,3 +2,4 @@ pub mod Justified
 pub mod Lettered
 pub mod Deciding
 pub mod Putting
+pub mod Feeding

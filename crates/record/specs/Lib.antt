@@ -1,3 +1,4 @@
 pub mod Columns
 pub mod LineBytes
 pub mod Pages
+pub mod Halts

@@ -79,7 +79,7 @@ fn guessed(bytes: &[u8]) -> Option<Line>
 }
 
 // What the bytes say: the guess, where it is written just so.
-fn said(bytes: &[u8]) -> Option<Line>
+pub(crate) fn said(bytes: &[u8]) -> Option<Line>
     ensures { λ r. ⌜ Says (now (bytes .entry)) r ⌝ }
 {
     let line = guessed(bytes)?;

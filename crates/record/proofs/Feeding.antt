@@ -1,0 +1,101 @@
+-- A record that is read line by line.
+use mathlib.Core.Path.{_≡_, refl, sym, ap, subst, _∙_}
+use mathlib.Core.List.{List, [], _∷_, _++_}
+use Prim.Native.Nat.{ℕ, _+_, _*_, _≤_, _<_, min}
+use native.Mathlib.Omega.{arith}
+use native.Mathlib.Numerals.{add-one}
+use lib.ListN.{length, take, drop}
+use Rattle.std.specs.shelf.Lists.{joined}
+use Rattle.std.proofs.shelf.Lists.{append-assoc, append-nil, length-append, length-push, take-at, take-append-drop, joined-more, nil-from-length}
+use Rattle.std.specs.declared.result.Result.{Result}
+use Rattle.std.specs.declared.result.Result.the-variants.{Ok, Err}
+use Rattle.blocks.specs.declared.line.Line.{Line}
+use Rattle.blocks.specs.Sinks.{Step, taken, refused, next-of, state-after}
+use Rattle.record.specs.declared.halt.Cause.{Cause}
+use Rattle.record.specs.declared.halt.Cause.the-variants.{Shape, Sink}
+use Rattle.record.specs.declared.halt.Halt.{Halt}
+use Rattle.record.specs.LineBytes.{line-bytes}
+use Rattle.record.specs.Halts.{halt-at, Refused, Fed, Takes-all, Stops-at, Reads}
+use Rattle.record.proofs.Lettered.{line-length}
+
+pub joined-length : (ls : List Line) → length (joined line-bytes ls) ≡ 10 * length ls
+joined-length [] = refl
+joined-length (l ∷ ls) =
+    let a = length-append (line-bytes l) (joined line-bytes ls) in
+    let b = line-length l in
+    let d = joined-length ls in
+    omega arith
+
+-- one line more at the end
+pub state-push : {M : Type 0} (step : M → Line → Step M) (s t : M) (ls : List Line) (l : Line) → step (state-after step s ls) l ≡ taken t → state-after step s (ls ++ l ∷ []) ≡ t
+state-push step s t [] l e = ap (next-of s) e
+state-push step s t (k ∷ ls) l e = state-push step (next-of s (step s k)) t ls l e
+
+pub takes-push : {M : Type 0} (step : M → Line → Step M) (s t : M) (ls : List Line) (l : Line) → Takes-all step s ls → step (state-after step s ls) l ≡ taken t → Takes-all step s (ls ++ l ∷ [])
+takes-push step s t [] l a e = (t, e, tt)
+takes-push step s t (k ∷ ls) l a e =
+    let next : next-of s (step s k) ≡ a .0 = ap (next-of s) (a .1) in
+    (a .0, a .1, takes-push step (a .0) t ls l (a .2) (subst (λ u. step (state-after step u ls) l ≡ taken t) next e))
+
+-- the lines that are taken so far, and the rest behind them
+pub record So-far {M : Type 0} (step : M → Line → Step M) (s : M) (text rest : List ℕ) (n : ℕ) (t : M) : Type 0 where
+  pub lines : List Line
+  pub begins : text ≡ joined line-bytes lines ++ rest
+  pub taken-all : Takes-all step s lines
+  pub state : t ≡ state-after step s lines
+  pub count : n ≡ length lines
+
+pub none-yet : {M : Type 0} (step : M → Line → Step M) (s : M) (text : List ℕ) → So-far step s text text 0 s
+none-yet step s text = record { lines = []; begins = refl; taken-all = tt; state = refl; count = refl }
+
+pub one-more : {M : Type 0} (step : M → Line → Step M) (s : M) (text rest : List ℕ) (n : ℕ) (t u : M) (l : Line) (behind : List ℕ) → So-far step s text rest n t
+    → rest ≡ line-bytes l ++ behind → step t l ≡ taken u → So-far step s text behind (n + 1) u
+one-more step s text rest n t u l behind so e f =
+    let g : step (state-after step s (so .lines)) l ≡ taken u = subst (λ v. step v l ≡ taken u) (so .state) f in
+    record {
+      lines = so .lines ++ l ∷ [];
+      begins = so .begins ∙ ap (λ xs. joined line-bytes (so .lines) ++ xs) e ∙ sym (append-assoc (joined line-bytes (so .lines)) (line-bytes l) behind)
+          ∙ ap (λ xs. xs ++ behind) (joined-more line-bytes [] (so .lines) l);
+      taken-all = takes-push step s u (so .lines) l (so .taken-all) g;
+      state = sym (state-push step s u (so .lines) l g);
+      count = ap (λ k. k + 1) (so .count) ∙ sym (length-push (so .lines) l);
+    }
+
+pub all-read : {M : Type 0} (step : M → Line → Step M) (s : M) (text rest : List ℕ) (n : ℕ) (t : M) → So-far step s text rest n t → length rest ≤ 0 → Reads step s text (Ok n) t
+all-read step s text rest n t so h =
+    record { lines = so .lines; rest = rest; begins = so .begins; taken-all = so .taken-all; state = so .state; ends = (nil-from-length rest (omega arith), so .count) }
+
+-- the first ten bytes, or all where there are fewer, tell whether a text begins with a line
+abbrev pub first-ten : List ℕ → ℕ
+first-ten xs = min (length xs) 10
+
+begins-so : (rest behind : List ℕ) (l : Line) → rest ≡ line-bytes l ++ behind → take (first-ten rest) rest ≡ line-bytes l
+begins-so rest behind l e =
+    let a = line-length l in
+    let b = length-append (line-bytes l) behind in
+    let d = ap length e in
+    let ten : first-ten rest ≡ 10 = omega arith in
+    ap (λ n. take n rest) ten ∙ ap (take 10) e ∙ take-at (line-bytes l) behind 10 a
+
+so-begins : (rest : List ℕ) (k : ℕ) (l : Line) → take k rest ≡ line-bytes l → rest ≡ line-bytes l ++ drop k rest
+so-begins rest k l e = sym (take-append-drop k rest) ∙ ap (λ xs. xs ++ drop k rest) e
+
+stops-at : {M : Type 0} (step : M → Line → Step M) (s : M) (rest : List ℕ) (c : Cause) → 0 < length rest → Refused step s (take (first-ten rest) rest) c → Stops-at step s rest c
+stops-at step s rest Shape some why = (some, λ l behind e. why l (begins-so rest behind l e))
+stops-at step s rest (Sink n) some why = (why .0, drop (first-ten rest) rest, so-begins rest (first-ten rest) (why .0) (why .1), why .2)
+
+pub stopped : {M : Type 0} (step : M → Line → Step M) (s : M) (text rest : List ℕ) (n : ℕ) (t u : M) (h : Halt) → So-far step s text rest n t → 0 < length rest
+    → Fed step t (n + 1) (take (first-ten rest) rest) (Err h) u → Reads step s text (Err h) u
+stopped step s text rest n t u h so some fed =
+    record {
+      lines = so .lines;
+      rest = rest;
+      begins = so .begins;
+      taken-all = so .taken-all;
+      state = fed .2 ∙ so .state;
+      ends = (subst (λ v. Stops-at step v rest (h .cause)) (sym (fed .2)) (stops-at step t rest (h .cause) some (fed .0)), fed .1 ∙ ap (λ k. halt-at (h .cause) (k + 1)) (so .count));
+    }
+
+pub so-far-length : {M : Type 0} (step : M → Line → Step M) (s : M) (text rest : List ℕ) (n : ℕ) (t : M) → So-far step s text rest n t → length text ≡ 10 * n + length rest
+so-far-length step s text rest n t so =
+    ap length (so .begins) ∙ length-append (joined line-bytes (so .lines)) rest ∙ ap (λ k. k + length rest) (joined-length (so .lines) ∙ ap (λ k. 10 * k) (sym (so .count)))
