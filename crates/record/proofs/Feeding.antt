@@ -48,9 +48,10 @@ pub record So-far {M : Type 0} (step : M → Line → Step M) (s : M) (text rest
 pub none-yet : {M : Type 0} (step : M → Line → Step M) (s : M) (text : List ℕ) → So-far step s text text 0 s
 none-yet step s text = record { lines = []; begins = refl; taken-all = tt; state = refl; count = refl }
 
-pub one-more : {M : Type 0} (step : M → Line → Step M) (s : M) (text rest : List ℕ) (n : ℕ) (t u : M) (l : Line) (behind : List ℕ) → So-far step s text rest n t
-    → rest ≡ line-bytes l ++ behind → step t l ≡ taken u → So-far step s text behind (n + 1) u
-one-more step s text rest n t u l behind so e f =
+pub one-more : {M : Type 0} (step : M → Line → Step M) (s : M) (text rest piece behind : List ℕ) (n : ℕ) (t u : M) (l : Line) → So-far step s text rest n t
+    → rest ≡ piece ++ behind → piece ≡ line-bytes l → step t l ≡ taken u → So-far step s text behind (n + 1) u
+one-more step s text rest piece behind n t u l so cut is f =
+    let e : rest ≡ line-bytes l ++ behind = cut ∙ ap (λ xs. xs ++ behind) is in
     let g : step (state-after step s (so .lines)) l ≡ taken u = subst (λ v. step v l ≡ taken u) (so .state) f in
     record {
       lines = so .lines ++ l ∷ [];
@@ -84,16 +85,17 @@ stops-at : {M : Type 0} (step : M → Line → Step M) (s : M) (rest : List ℕ)
 stops-at step s rest Shape some why = (some, λ l behind e. why l (begins-so rest behind l e))
 stops-at step s rest (Sink n) some why = (why .0, drop (first-ten rest) rest, so-begins rest (first-ten rest) (why .0) (why .1), why .2)
 
-pub stopped : {M : Type 0} (step : M → Line → Step M) (s : M) (text rest : List ℕ) (n : ℕ) (t u : M) (h : Halt) → So-far step s text rest n t → 0 < length rest
-    → Fed step t (n + 1) (take (first-ten rest) rest) (Err h) u → Reads step s text (Err h) u
-stopped step s text rest n t u h so some fed =
+pub stopped : {M : Type 0} (step : M → Line → Step M) (s : M) (text rest piece : List ℕ) (k n : ℕ) (t u : M) (h : Halt) → So-far step s text rest n t → 0 < length rest
+    → k ≡ first-ten rest → piece ≡ take k rest → Fed step t (n + 1) piece (Err h) u → Reads step s text (Err h) u
+stopped step s text rest piece k n t u h so some ten is fed =
+    let why : Refused step t (take (first-ten rest) rest) (h .cause) = subst (λ bs. Refused step t bs (h .cause)) (is ∙ ap (λ m. take m rest) ten) (fed .0) in
     record {
       lines = so .lines;
       rest = rest;
       begins = so .begins;
       taken-all = so .taken-all;
       state = fed .2 ∙ so .state;
-      ends = (subst (λ v. Stops-at step v rest (h .cause)) (sym (fed .2)) (stops-at step t rest (h .cause) some (fed .0)), fed .1 ∙ ap (λ k. halt-at (h .cause) (k + 1)) (so .count));
+      ends = (subst (λ v. Stops-at step v rest (h .cause)) (sym (fed .2)) (stops-at step t rest (h .cause) some why), fed .1 ∙ ap (λ m. halt-at (h .cause) (m + 1)) (so .count));
     }
 
 pub so-far-length : {M : Type 0} (step : M → Line → Step M) (s : M) (text rest : List ℕ) (n : ℕ) (t : M) → So-far step s text rest n t → length text ≡ 10 * n + length rest

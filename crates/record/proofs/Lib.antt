@@ -3,3 +3,6 @@ pub mod Lettered
 pub mod Deciding
 pub mod Putting
 pub mod Feeding
+pub mod Pieces
+pub mod Ending
+pub mod Filling

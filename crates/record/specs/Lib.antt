@@ -2,3 +2,5 @@ pub mod Columns
 pub mod LineBytes
 pub mod Pages
 pub mod Halts
+pub mod Laws
+pub mod Examples
