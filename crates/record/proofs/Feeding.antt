@@ -4,9 +4,9 @@ use mathlib.Core.List.{List, [], _∷_, _++_}
 use Prim.Native.Nat.{ℕ, _+_, _*_, _≤_, _<_, min}
 use native.Mathlib.Omega.{arith}
 use native.Mathlib.Numerals.{add-one}
-use lib.ListN.{length, take, drop}
+use lib.ListN.{length, take}
 use Rattle.std.specs.shelf.Lists.{joined}
-use Rattle.std.proofs.shelf.Lists.{append-assoc, append-nil, length-append, length-push, take-at, take-append-drop, joined-more, nil-from-length}
+use Rattle.std.proofs.shelf.Lists.{append-assoc, append-nil, length-append, length-push, take-at, joined-more, nil-from-length}
 use Rattle.std.specs.declared.result.Result.{Result}
 use Rattle.std.specs.declared.result.Result.the-variants.{Ok, Err}
 use Rattle.blocks.specs.declared.line.Line.{Line}
@@ -67,36 +67,36 @@ all-read step s text rest n t so h =
     record { lines = so .lines; rest = rest; begins = so .begins; taken-all = so .taken-all; state = so .state; ends = (nil-from-length rest (omega arith), so .count) }
 
 -- the first ten bytes, or all where there are fewer, tell whether a text begins with a line
-abbrev pub first-ten : List ℕ → ℕ
-first-ten xs = min (length xs) 10
-
-begins-so : (rest behind : List ℕ) (l : Line) → rest ≡ line-bytes l ++ behind → take (first-ten rest) rest ≡ line-bytes l
-begins-so rest behind l e =
+begins-so : (rest piece behind after : List ℕ) (l : Line) → rest ≡ piece ++ behind → length piece ≡ min (length rest) 10 → rest ≡ line-bytes l ++ after → piece ≡ line-bytes l
+begins-so rest piece behind after l cut some e =
     let a = line-length l in
-    let b = length-append (line-bytes l) behind in
+    let b = length-append (line-bytes l) after in
     let d = ap length e in
-    let ten : first-ten rest ≡ 10 = omega arith in
-    ap (λ n. take n rest) ten ∙ ap (take 10) e ∙ take-at (line-bytes l) behind 10 a
+    let ten : length piece ≡ 10 = omega arith in
+    sym (take-at piece behind 10 ten) ∙ ap (take 10) (sym cut ∙ e) ∙ take-at (line-bytes l) after 10 a
 
-so-begins : (rest : List ℕ) (k : ℕ) (l : Line) → take k rest ≡ line-bytes l → rest ≡ line-bytes l ++ drop k rest
-so-begins rest k l e = sym (take-append-drop k rest) ∙ ap (λ xs. xs ++ drop k rest) e
+stops-at : {M : Type 0} (step : M → Line → Step M) (s : M) (rest piece behind : List ℕ) (c : Cause) → 0 < length rest → rest ≡ piece ++ behind → length piece ≡ min (length rest) 10
+    → Refused step s piece c → Stops-at step s rest c
+stops-at step s rest piece behind Shape some cut ten why = (some, λ l after e. why l (begins-so rest piece behind after l cut ten e))
+stops-at step s rest piece behind (Sink n) some cut ten why = (why .0, behind, cut ∙ ap (λ xs. xs ++ behind) (why .1), why .2)
 
-stops-at : {M : Type 0} (step : M → Line → Step M) (s : M) (rest : List ℕ) (c : Cause) → 0 < length rest → Refused step s (take (first-ten rest) rest) c → Stops-at step s rest c
-stops-at step s rest Shape some why = (some, λ l behind e. why l (begins-so rest behind l e))
-stops-at step s rest (Sink n) some why = (why .0, drop (first-ten rest) rest, so-begins rest (first-ten rest) (why .0) (why .1), why .2)
-
-pub stopped : {M : Type 0} (step : M → Line → Step M) (s : M) (text rest piece : List ℕ) (k n : ℕ) (t u : M) (h : Halt) → So-far step s text rest n t → 0 < length rest
-    → k ≡ first-ten rest → piece ≡ take k rest → Fed step t (n + 1) piece (Err h) u → Reads step s text (Err h) u
-stopped step s text rest piece k n t u h so some ten is fed =
-    let why : Refused step t (take (first-ten rest) rest) (h .cause) = subst (λ bs. Refused step t bs (h .cause)) (is ∙ ap (λ m. take m rest) ten) (fed .0) in
+pub stopped : {M : Type 0} (step : M → Line → Step M) (s : M) (text rest piece behind : List ℕ) (n : ℕ) (t u : M) (h : Halt) → So-far step s text rest n t → 0 < length rest
+    → rest ≡ piece ++ behind → length piece ≡ min (length rest) 10 → Fed step t (n + 1) piece (Err h) u → Reads step s text (Err h) u
+stopped step s text rest piece behind n t u h so some cut ten fed =
     record {
       lines = so .lines;
       rest = rest;
       begins = so .begins;
       taken-all = so .taken-all;
       state = fed .2 ∙ so .state;
-      ends = (subst (λ v. Stops-at step v rest (h .cause)) (sym (fed .2)) (stops-at step t rest (h .cause) some why), fed .1 ∙ ap (λ m. halt-at (h .cause) (m + 1)) (so .count));
+      ends = (
+        subst (λ v. Stops-at step v rest (h .cause)) (sym (fed .2)) (stops-at step t rest piece behind (h .cause) some cut ten (fed .0)),
+        fed .1 ∙ ap (λ m. halt-at (h .cause) (m + 1)) (so .count),
+      );
     }
+
+pub shorter : (rest piece behind : List ℕ) → 0 < length rest → rest ≡ piece ++ behind → length piece ≡ min (length rest) 10 → length behind < length rest
+shorter rest piece behind some cut ten = omega (arith, ap length cut, length-append piece behind)
 
 pub so-far-length : {M : Type 0} (step : M → Line → Step M) (s : M) (text rest : List ℕ) (n : ℕ) (t : M) → So-far step s text rest n t → length text ≡ 10 * n + length rest
 so-far-length step s text rest n t so =

@@ -25,7 +25,7 @@ page bs n = record { bytes = bs; written = n }
 
 -- what a record holds
 abbrev pub page-of : Record → Page
-page-of r = page (now (r .buffer)) (r .len)
+page-of r = page (now (r .buffer)) (r .end)
 
 -- the number of the line to come, from 1: the lines that are written, ten bytes each, and one
 abbrev pub next-line : Page → ℕ

@@ -1,4 +1,7 @@
 ghost use mathlib.Core.Path.{_≡_};
+ghost use mathlib.Core.List.{_++_};
+ghost use Prim.Native.Nat.{min};
+ghost use lib.ListN.{length};
 ghost use Rattle.record.specs.Halts.{Fed, Reads};
 use crate::halt::Cause;
 use crate::halt::Halt;
@@ -19,9 +22,17 @@ pub fn feed_line<K: Sink>(sink: &mut K, bytes: &[u8], nth: u64) -> Result<(), Ha
     }
 }
 
+// The first ten bytes, or all where there are fewer, and those behind them.
+fn first_ten(bytes: &[u8]) -> (&[u8], &[u8])
+    ensures cut { λ r. ⌜ now (bytes .entry) ≡ now (r .0) ++ now (r .1) ⌝ }
+    ensures ten { λ r. ⌜ length (now (r .0)) ≡ min (length (now (bytes .entry))) 10 ⌝ }
+{
+    bytes.split_at(bytes.len().min(10))
+}
+
 // A whole record into a sink, line by line, up to the first line that is refused. Answers how many
-// lines were taken. Every line has ten bytes, so ten that are no line's end the reading, wherever
-// the next byte 10 stands.
+// lines were taken. A line has ten bytes, so where the next ten are no line's, the bytes up to the
+// next byte 10 are none either.
 pub fn feed_record<K: Sink>(sink: &mut K, bytes: &[u8]) -> Result<u64, Halt>
     ensures read { λ r. ⌜ Reads (K·Sink .step) (K·Sink .model (now (sink .entry))) (now (bytes .entry)) r (K·Sink .model (now (sink .exit))) ⌝ }
     ensures kept { λ _. ⌜ K·Sink .lent (now (sink .exit)) ≡ K·Sink .lent (now (sink .entry)) ⌝ }
@@ -29,7 +40,7 @@ pub fn feed_record<K: Sink>(sink: &mut K, bytes: &[u8]) -> Result<u64, Halt>
     let mut rest = bytes;
     let mut taken = 0;
     while rest.len() > 0 {
-        let (line, behind) = rest.split_at(rest.len().min(10));
+        let (line, behind) = first_ten(rest);
         let nth = taken + 1;
         feed_line(sink, line, nth)?;
         taken = nth;

@@ -8,5 +8,5 @@ use Rattle.record.proofs.sink.Record.written.Needs as need
 pub returns : need.returns
 returns c =
     let r = c .args .self .now in
-    let n : c .min .result - 0 ≡ min (r .len) (length (r .buffer .now)) = omega (arith, c .min .ensures) in
-    ap (λ k. take k (r .buffer .now)) n ∙ take-min (r .len) (r .buffer .now)
+    let n : c .front .result - 0 ≡ min (r .end) (length (r .buffer .now)) = omega (arith, c .front .ensures) in
+    ap (λ k. take k (r .buffer .now)) n ∙ take-min (r .end) (r .buffer .now)
