@@ -13,7 +13,8 @@ use Rattle.std.proofs.shelf.Tests.{ne-eqb, cond-false}
 use Rattle.std.proofs.shelf.Decimals.{decimal-by-steps}
 use Rattle.std.proofs.shelf.Ways.{tells}
 use Rattle.std.specs.Written.{decimal}
-use Rattle.record.specs.Columns.{column, last-digit, front-byte, worth}
+use Rattle.record.specs.Columns.{column}
+use Rattle.record.specs.Digits.{last-digit, front-byte, worth}
 
 -- the k bytes before the last columns, where so much of the number is left
 abbrev pub fronts : ℕ → ℕ → List ℕ

@@ -10,7 +10,8 @@ use Rattle.blocks.specs.declared.line.numbers.BlockNumber.{BlockNumber}
 use Rattle.blocks.specs.declared.line.numbers.SettingNumber.{SettingNumber}
 use Rattle.blocks.specs.Lines.{letter, block-column, setting-column}
 use Rattle.blocks.proofs.Numbered.{same-block-number, same-setting-number}
-use Rattle.record.specs.Columns.{column, last-digit, front-byte, worth}
+use Rattle.record.specs.Columns.{column}
+use Rattle.record.specs.Digits.{last-digit, front-byte, worth}
 use Rattle.record.specs.LineBytes.{line-bytes}
 use Rattle.record.proofs.Justified.{five-columns, three-columns, last-worth, front-worth}
 

@@ -13,7 +13,7 @@ use Rattle.std.proofs.shelf.Ways.{tells}
 use Rattle.blocks.specs.declared.line.Line.{Line}
 use Rattle.blocks.specs.declared.line.Line.the-variants.{Take, Resolve, Keep, End}
 use Rattle.blocks.specs.Lines.{letter, block-column, setting-column}
-use Rattle.record.specs.Columns.{front-byte, last-digit}
+use Rattle.record.specs.Digits.{front-byte, last-digit}
 use Rattle.record.specs.LineBytes.{line-bytes}
 use Rattle.record.specs.Laws.{First-piece}
 use Rattle.record.proofs.Lettered.{line-is-ten, line-length}

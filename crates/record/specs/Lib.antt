@@ -1,4 +1,5 @@
 pub mod Columns
+pub mod Digits
 pub mod LineBytes
 pub mod Pages
 pub mod Halts

@@ -1,6 +1,6 @@
 ghost use mathlib.Core.Path.{_≡_};
 ghost use Rattle.blocks.specs.declared.line.Line.{Line};
-ghost use Rattle.record.specs.Columns.{front-byte, last-digit};
+ghost use Rattle.record.specs.Digits.{front-byte, last-digit};
 ghost use Rattle.record.specs.LineBytes.{line-bytes};
 use blocks::line::Line;
 

@@ -7,7 +7,7 @@ ghost use Rattle.std.specs.declared.result.Result.the-variants.{Ok};
 ghost use Rattle.scales.specs.Checks.{Outcome};
 ghost use Rattle.blocks.specs.declared.line.Line.{Line};
 ghost use Rattle.blocks.specs.Lines.{letter, block-column, setting-column};
-ghost use Rattle.record.specs.Columns.{worth};
+ghost use Rattle.record.specs.Digits.{worth};
 ghost use Rattle.record.specs.LineBytes.{line-bytes, Says, shape-checks};
 use crate::bytes::line_bytes;
 use blocks::line::Line;
