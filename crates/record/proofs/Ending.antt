@@ -15,7 +15,8 @@ use Rattle.record.specs.declared.halt.Cause.{Cause}
 use Rattle.record.specs.declared.halt.Cause.the-variants.{Shape, Sink}
 use Rattle.record.specs.declared.halt.Halt.{Halt}
 use Rattle.record.specs.LineBytes.{line-bytes}
-use Rattle.record.specs.Halts.{halt-at, Takes-all, Stops-at, Ends, Reads}
+use Rattle.record.specs.Halts.{halt-at}
+use Rattle.record.specs.Readings.{Takes-all, Stops-at, Ends, Reads}
 use Rattle.record.specs.Laws.{Reading-stands}
 use Rattle.record.proofs.Lettered.{line-length, same-line}
 

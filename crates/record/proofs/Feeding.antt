@@ -15,7 +15,8 @@ use Rattle.record.specs.declared.halt.Cause.{Cause}
 use Rattle.record.specs.declared.halt.Cause.the-variants.{Shape, Sink}
 use Rattle.record.specs.declared.halt.Halt.{Halt}
 use Rattle.record.specs.LineBytes.{line-bytes}
-use Rattle.record.specs.Halts.{halt-at, Refused, Fed, Takes-all, Stops-at, Reads}
+use Rattle.record.specs.Halts.{halt-at, Refused, Fed}
+use Rattle.record.specs.Readings.{Takes-all, Stops-at, Reads}
 use Rattle.record.proofs.Lettered.{line-length}
 
 pub joined-length : (ls : List Line) → length (joined line-bytes ls) ≡ 10 * length ls

@@ -15,7 +15,7 @@ use Rattle.blocks.specs.declared.line.Line.{Line}
 use Rattle.blocks.specs.Sinks.{Step, taken, refused, next-of, state-after}
 use Rattle.record.specs.LineBytes.{line-bytes}
 use Rattle.record.specs.Pages.{Page, page, has-room, put, writes, next-line}
-use Rattle.record.specs.Halts.{Takes-all}
+use Rattle.record.specs.Readings.{Takes-all}
 use Rattle.record.specs.Laws.{Record-stands}
 use Rattle.record.proofs.Lettered.{line-length}
 

@@ -1,15 +1,13 @@
--- Reading a record into a sink, line by line, up to the first line that is refused.
+-- One line of a record, read into a sink.
 use mathlib.Core.Path.{_≡_}
-use mathlib.Core.List.{List, [], _∷_, _++_}
-use Prim.Native.Nat.{ℕ, _+_, _<_, min}
-use lib.ListN.{length}
-use Rattle.std.specs.shelf.Lists.{joined}
+use mathlib.Core.List.{List}
+use Prim.Native.Nat.{ℕ, min}
 use Rattle.std.specs.declared.result.Result.{Result}
 use Rattle.std.specs.declared.result.Result.the-variants.{Ok, Err}
 use Rattle.scales.specs.declared.refusal.Stop.the-variants.{BadShape}
 use Rattle.scales.specs.Stops.{number}
 use Rattle.blocks.specs.declared.line.Line.{Line}
-use Rattle.blocks.specs.Sinks.{Step, taken, refused, state-after}
+use Rattle.blocks.specs.Sinks.{Step, taken, refused}
 use Rattle.record.specs.declared.halt.Cause.{Cause}
 use Rattle.record.specs.declared.halt.Cause.the-variants.{Shape, Sink}
 use Rattle.record.specs.declared.halt.Halt.{Halt}
@@ -20,44 +18,16 @@ abbrev pub cause-number : Cause → ℕ
 cause-number Shape = number BadShape
 cause-number (Sink n) = n
 
--- at the n-th line, from 1; the number of a line stops at 99,999
+-- a halt at the n-th line, from 1; the number of a line stops at 99,999
 abbrev pub halt-at : Cause → ℕ → Halt
 halt-at c n = record { cause = c; line = min n 99999 }
 
--- ---- one line
-
--- why these bytes are not taken in state s: they are no line's, or the sink refuses their line
+-- why a sink in state s does not take these bytes: they are no line's, or it refuses their line
 abbrev pub Refused : {M : Type 0} → (M → Line → Step M) → M → List ℕ → Cause → Type 0
 Refused step s bytes Shape = (l : Line) → bytes ≡ line-bytes l → ⊥
 Refused step s bytes (Sink e) = (l : Line) × (bytes ≡ line-bytes l) × (step s l ≡ refused e)
 
--- the bytes of one line, the n-th, sent to a sink in state s, which is in state t then
+-- the bytes of one line, the n-th of a record, come to a sink in state s, which is in state t then
 abbrev pub Fed : {M : Type 0} → (M → Line → Step M) → M → ℕ → List ℕ → Result (Unit {0}) Halt → M → Type 0
 Fed step s n bytes (Ok u) t = (l : Line) × (bytes ≡ line-bytes l) × (step s l ≡ taken t)
 Fed step s n bytes (Err h) t = Refused step s bytes (h .cause) × (h ≡ halt-at (h .cause) n) × (t ≡ s)
-
--- ---- a whole record
-
--- a sink in state s takes each of these lines, one after the other
-abbrev pub Takes-all : {M : Type 0} → (M → Line → Step M) → M → List Line → Type 0
-Takes-all step s [] = Unit {0}
-Takes-all {M} step s (l ∷ ls) = (t : M) × (step s l ≡ taken t) × Takes-all step t ls
-
--- why the rest of a record is not read on: it does not begin with a line, or the sink refuses the line that it begins with
-abbrev pub Stops-at : {M : Type 0} → (M → Line → Step M) → M → List ℕ → Cause → Type 0
-Stops-at step s rest Shape = (0 < length rest) × ((l : Line) (behind : List ℕ) → rest ≡ line-bytes l ++ behind → ⊥)
-Stops-at step s rest (Sink e) = (l : Line) × (behind : List ℕ) × (rest ≡ line-bytes l ++ behind) × (step s l ≡ refused e)
-
--- behind n lines the record is over, or the line after them is refused
-abbrev pub Ends : {M : Type 0} → (M → Line → Step M) → M → List ℕ → ℕ → Result ℕ Halt → Type 0
-Ends step s rest n (Ok k) = (rest ≡ []) × (k ≡ n)
-Ends step s rest n (Err h) = Stops-at step s rest (h .cause) × (h ≡ halt-at (h .cause) (n + 1))
-
--- a record begins with lines that a sink in state s takes, and that leave it in state t; they are all, or the line after them is refused
-pub record Reads {M : Type 0} (step : M → Line → Step M) (s : M) (text : List ℕ) (r : Result ℕ Halt) (t : M) : Type 0 where
-  pub lines : List Line
-  pub rest : List ℕ
-  pub begins : text ≡ joined line-bytes lines ++ rest
-  pub taken-all : Takes-all step s lines
-  pub state : t ≡ state-after step s lines
-  pub ends : Ends step t rest (length lines) r

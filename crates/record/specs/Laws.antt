@@ -12,7 +12,7 @@ use Rattle.blocks.specs.Sinks.{Step, state-after}
 use Rattle.record.specs.declared.halt.Halt.{Halt}
 use Rattle.record.specs.LineBytes.{line-bytes}
 use Rattle.record.specs.Pages.{page, next-line, writes}
-use Rattle.record.specs.Halts.{Takes-all, Reads}
+use Rattle.record.specs.Readings.{Takes-all, Reads}
 
 -- a text begins with a piece: up to its first byte 10, which the piece has too, or to its end where there is none
 pub record First-piece (text piece rest : List ℕ) : Type 0 where

@@ -3,5 +3,6 @@ pub mod Digits
 pub mod LineBytes
 pub mod Pages
 pub mod Halts
+pub mod Readings
 pub mod Laws
 pub mod Examples
