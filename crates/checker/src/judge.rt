@@ -1,0 +1,17 @@
+use crate::state::State;
+use blocks::problem::Problem;
+use blocks::slot::Slot;
+
+pub mod finding;
+mod look;
+
+// A judge over a problem, with a work area of its own.
+//
+// It is not Drop: only its finding uses it up.
+pub struct Judge<'a> {
+    problem: Problem<'a>,
+    area: &'a mut [Slot],
+    state: State,
+    // the number of the next line, from 1: the lines taken and one, stopping at 99,999
+    line: u32,
+}
