@@ -50,15 +50,18 @@ Whole c (Resolve k s) = Unit {0}
 Whole c (Keep k) = Unit {0}
 Whole c End = (w : Ranges) → c .phase ≡ working w → Inside (everything (c .sheet .last)) w
 
--- what is asked of a line, in order
-abbrev pub line-checks : Court → Line → List Check
-line-checks c l =
-    asks c NotAllowed (Allowed c l)
-    ∷ asks c UnknownBlock (Known c l)
+-- what is asked of a line that may come, in order
+abbrev pub further-checks : Court → Line → List Check
+further-checks c l =
+    asks c UnknownBlock (Known c l)
     ∷ asks c Undeclared (Declared c l)
     ∷ asks c NotResolvable (Joins c l)
     ∷ asks c NotEverything (Whole c l)
     ∷ []
+
+-- what is asked of a line, in order
+abbrev pub line-checks : Court → Line → List Check
+line-checks c l = asks c NotAllowed (Allowed c l) ∷ further-checks c l
 
 -- the state one line on
 abbrev pub onward : Court → Phase → List (Option Ranges) → Court

@@ -3,6 +3,8 @@ use blocks::problem::Problem;
 use blocks::slot::Slot;
 
 pub mod finding;
+mod ask;
+mod hear;
 mod look;
 
 // A judge over a problem, with a work area of its own.

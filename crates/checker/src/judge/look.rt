@@ -38,14 +38,14 @@ fn held(slot: Slot) -> Option<Block>
 
 impl Judge<'_> {
     // A refusal of the next line.
-    fn refusal(&self, stop: Stop) -> Refusal
+    pub(super) fn refusal(&self, stop: Stop) -> Refusal
         ensures { λ r. ⌜ r ≡ line-place stop (now (self .entry) .line) ⌝ }
     {
         Refusal::at_line(stop, u64::from(self.line))
     }
 
     // Whether the table allows a line now.
-    fn allow(&self, line: Line) -> Result<(), Refusal>
+    pub(super) fn allow(&self, line: Line) -> Result<(), Refusal>
         ensures { λ r. ⌜ Outcome (asks (court-of (now (self .entry))) NotAllowed (Allowed (court-of (now (self .entry))) line) ∷ []) (λ _. Unit {0}) r ⌝ }
     {
         if !allowed(self.state.stage(), Letter::of(line)) {
@@ -76,7 +76,7 @@ impl Judge<'_> {
     }
 
     // The block of a number: rule i is block i, slot j is block 100 + j.
-    fn block(&self, number: BlockNumber) -> Option<Block>
+    pub(super) fn block(&self, number: BlockNumber) -> Option<Block>
         ensures { λ r. ⌜ mapped ranges r ≡ block-in (court-of (now (self .entry))) (number .number) ⌝ }
     {
         let n = number.number() as usize;
