@@ -1,2 +1,4 @@
 pub mod Looking
 pub mod Asking
+pub mod Deciding
+pub mod Stepping

@@ -1,3 +1,4 @@
 pub mod Table
 pub mod Courts
 pub mod Hearing
+pub mod Steps

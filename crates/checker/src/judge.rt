@@ -4,6 +4,7 @@ use blocks::slot::Slot;
 
 pub mod finding;
 mod ask;
+pub mod check;
 mod hear;
 mod look;
 
