@@ -2,3 +2,4 @@ pub mod Looking
 pub mod Asking
 pub mod Deciding
 pub mod Stepping
+pub mod Values

@@ -29,7 +29,7 @@ use Rattle.blocks.specs.Sinks.{Step, taken, refused, result-of, next-of}
 use Rattle.blocks.specs.Views.{Real}
 use Rattle.checker.specs.Table.{allows, letter-of}
 use Rattle.checker.specs.Courts.{Phase, idle, working, ended, Court, block-in, stage}
-use Rattle.checker.specs.Hearing.{Allowed, Known, Joins, Whole, line-checks, further-checks, onward, Leads, Hears, Takes}
+use Rattle.checker.specs.Hearing.{Allowed, Known, Joins, Whole, line-checks, further-checks, onward, Leads, Hears, Takes, Just-takes}
 use Rattle.checker.specs.Steps.{resolvable, whole, where-true, where-known, step-in, step}
 use Rattle.checker.proofs.Asking.{same-work, same-some}
 use Rattle.checker.proofs.Deciding.{resolvable-decides, whole-decides}
@@ -40,7 +40,7 @@ pub record Real-court (c : Court) : Type 0 where
   pub blocks : (k : ℕ) (b : Ranges) → block-in c k ≡ Some b → Real b
   pub work : (w : Ranges) → c .phase ≡ working w → Real w
 
-none-some : {b : Ranges} → None ≡ Some b → ⊥
+pub none-some : {b : Ranges} → None ≡ Some b → ⊥
 none-some e = let z : _≡_ {A = ℕ} 0 1 = cc in omega arith
 
 module _ (c : Court) where
@@ -149,3 +149,10 @@ one-taking c l (Ok u) (Ok v) d e p q = (refl, one-leading c l d e (p .1) (q .1))
 one-taking c l (Ok u) (Err n) d e p q = absurd (not-both (line-checks c l) (q .0) (p .0) (q .2 .0))
 one-taking c l (Err n) (Ok u) d e p q = absurd (not-both (line-checks c l) (p .0) (q .0) (p .2 .0))
 one-taking c l (Err n) (Err m) d e p q = (ap Err (p .1 ∙ ap (λ (f : Refusal). number (f .stop)) (one-refusal (line-checks c l) (p .0) (q .0) (p .2 .0) (q .2 .0)) ∙ sym (q .1)), p .2 .1 ∙ sym (q .2 .1))
+
+pub just-takes : (c : Court) (l : Line) (r : Result (Unit {0}) ℕ) (d : Court) → Takes c l r d → Just-takes c l r d
+just-takes c l r d t = record { takes = t; only = λ s e u. one-taking c l s r e d u t }
+
+-- what comes of a line by its checks is the step
+pub is-step : (c : Court) → Real-court c → (l : Line) (r : Result (Unit {0}) ℕ) (d : Court) → Takes c l r d → (r ≡ result-of (step c l)) × (d ≡ next-of c (step c l))
+is-step c real l r d t = one-taking c l r (result-of (step c l)) d (next-of c (step c l)) t (step-lawful c real l)

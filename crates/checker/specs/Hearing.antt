@@ -83,3 +83,8 @@ Hears c l (Err e) d = Refuses (line-checks c l) e × (d ≡ c)
 abbrev pub Takes : Court → Line → Result (Unit {0}) ℕ → Court → Type 0
 Takes c l (Ok u) d = Hears c l (Ok u) d
 Takes c l (Err n) d = (e : Refusal) × (n ≡ number (e .stop)) × Hears c l (Err e) d
+
+-- that outcome, and no other
+pub record Just-takes (c : Court) (l : Line) (r : Result (Unit {0}) ℕ) (d : Court) : Type 0 where
+  pub takes : Takes c l r d
+  pub only : (s : Result (Unit {0}) ℕ) (e : Court) → Takes c l s e → (s ≡ r) × (e ≡ d)

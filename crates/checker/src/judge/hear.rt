@@ -41,7 +41,7 @@ impl Judge<'_> {
     }
 
     // One line: taken, with the state that it leads to, or refused, and then nothing changes.
-    fn hear(&mut self, line: Line) -> Result<(), Refusal>
+    pub(super) fn hear(&mut self, line: Line) -> Result<(), Refusal>
         ensures outcome { λ r. ⌜ Hears (court-of (now (self .entry))) line r (court-of (now (self .exit))) ⌝ }
         ensures lent { λ _. ⌜ name (now (self .exit) .area) ≡ name (now (self .entry) .area) ⌝ }
     {
