@@ -3,3 +3,4 @@ pub mod Asking
 pub mod Deciding
 pub mod Stepping
 pub mod Values
+pub mod Soundness

@@ -2,3 +2,4 @@ pub mod Table
 pub mod Courts
 pub mod Hearing
 pub mod Steps
+pub mod Findings
