@@ -13,7 +13,9 @@ use Rattle.std.specs.declared.option.Option.{Option}
 use Rattle.std.specs.declared.option.Option.the-variants.{Some, None}
 use Rattle.std.specs.declared.result.Result.{Result}
 use Rattle.std.specs.declared.result.Result.the-variants.{Ok, Err}
-use Rattle.scales.specs.Checks.{Passes}
+use Rattle.std.specs.Results.{isOk}
+use Rattle.scales.specs.declared.refusal.Refusal.{Refusal}
+use Rattle.scales.specs.Checks.{Passes, Outcome}
 use Rattle.blocks.specs.declared.line.Line.{Line}
 use Rattle.blocks.specs.declared.line.Line.the-variants.{Take, Resolve, Keep, End}
 use Rattle.blocks.specs.Bounds.{Profile}
@@ -25,10 +27,10 @@ use Rattle.blocks.specs.Views.{Real}
 use Rattle.blocks.proofs.Ranging.{resolve-in, resolve-stands}
 use Rattle.checker.specs.Table.{allows}
 use Rattle.checker.specs.declared.table.Letter.the-variants.{E}
-use Rattle.checker.specs.Courts.{Phase, idle, working, ended, Court, opened, block-in, stage}
+use Rattle.checker.specs.Courts.{Phase, idle, working, ended, Court, opened, block-in, stage, finding-checks}
 use Rattle.checker.specs.Hearing.{line-checks, onward, Leads, Takes}
 use Rattle.checker.specs.Steps.{step}
-use Rattle.checker.specs.Findings.{Impossible, after, one-if-taken, lines-taken, Judges-rightly}
+use Rattle.checker.specs.Findings.{Impossible, after, one-if-taken, lines-taken, Judges-rightly, Found-rightly}
 use Rattle.checker.proofs.Asking.{same-work, same-some}
 use Rattle.checker.proofs.Stepping.{Real-court, none-some, step-lawful, just-takes}
 
@@ -200,3 +202,10 @@ module _ (S : Sheet) (proper : Proper S) where
         lawful = λ l. just-takes c l (result-of (step c l)) (next-of c (step c l)) (step-lawful c (going-real c g) l);
         never-wrong = λ e. subst Impossible (g .sheet) (g .fair .end e);
       }
+
+ended-accepts : (p : Phase) (n : ℕ) (r : Result (Unit {0}) Refusal) → Outcome (finding-checks p n) (λ _. Unit {0}) r → isOk r ≡ true → p ≡ ended
+ended-accepts p n (Ok u) o e = o .0 .0
+ended-accepts p n (Err f) o e = absurd (false≢true e)
+
+pub found-rightly : (c : Court) (r : Result (Unit {0}) Refusal) → Outcome (finding-checks (c .phase) (c .line)) (λ _. Unit {0}) r → Found-rightly c r
+found-rightly c r o S m ls proper is e = judges-rightly S proper m ls .never-wrong (ap (λ (d : Court). d .phase) (sym is) ∙ ended-accepts (c .phase) (c .line) r o e)

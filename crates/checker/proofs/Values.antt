@@ -1,5 +1,5 @@
 -- The state of a judge is real, since its blocks are.
-use mathlib.Core.Path.{_≡_, refl, subst}
+use mathlib.Core.Path.{_≡_, refl, ap, subst}
 use mathlib.Core.Logic.{_⊎_, inl, inr}
 use mathlib.Core.Bool.{Bool, true, false, cond}
 use mathlib.Core.List.{List, [], _∷_, map}
@@ -7,6 +7,7 @@ use Prim.Native.Nat.{ℕ, zero, suc, _-_, _≤_}
 use native.Mathlib.Omega.{arith}
 use denote.Ref.{now}
 use lib.Dec.{ltb}
+use lib.ListN.{replicate}
 use Rattle.std.specs.shelf.Maps.{nth}
 use Rattle.std.specs.declared.option.Option.{Option}
 use Rattle.std.specs.declared.option.Option.the-variants.{Some, None}
@@ -58,3 +59,7 @@ real-court j = record {
   blocks = λ k b. either-real (ltb k 100) _ _ b (rules-real (now (j .problem .rules)) k b) (slots-real (now (j .area)) (k - 100) b);
   work = work-real (j .state);
 }
+
+pub empty-holds-nothing : (m : ℕ) → holdings (replicate m Empty) ≡ replicate m None
+empty-holds-nothing zero = refl
+empty-holds-nothing (suc m) = ap (λ (ss : List (Option Ranges)). None ∷ ss) (empty-holds-nothing m)

@@ -61,6 +61,6 @@ court-of j = record { sheet = posed (j .problem); phase = phase-of (j .state); s
 abbrev pub asks : Court → Stop → Type 0 → Check
 asks c s P = record { holds = P; refusal = line-place s (c .line) }
 
--- the finding: accepted if ended
-abbrev pub finding-checks : Court → List Check
-finding-checks c = asks c EndMissing (c .phase ≡ ended) ∷ []
+-- the finding of a judge in this phase whose next line would have this number: accepted if ended
+abbrev pub finding-checks : Phase → ℕ → List Check
+finding-checks p n = record { holds = p ≡ ended; refusal = line-place EndMissing n } ∷ []

@@ -2,6 +2,10 @@
 use mathlib.Core.Path.{_≡_}
 use mathlib.Core.List.{List, [], _∷_}
 use Prim.Native.Nat.{ℕ, suc, _+_, min}
+use mathlib.Core.Bool.{true}
+use Rattle.std.specs.Results.{isOk}
+use Rattle.std.specs.declared.result.Result.{Result}
+use Rattle.scales.specs.declared.refusal.Refusal.{Refusal}
 use Rattle.blocks.specs.declared.line.Line.{Line}
 use Rattle.blocks.specs.Bounds.{Profile}
 use Rattle.blocks.specs.Ranges.{everything, In}
@@ -35,3 +39,7 @@ pub record Judges-rightly (S : Sheet) (m : ℕ) (ls : List Line) : Type 0 where
   pub lawful : (l : Line) → Just-takes (after S m ls) l (result-of (step (after S m ls) l)) (next-of (after S m ls) (step (after S m ls) l))
   -- grounds are accepted only where every profile breaks a rule
   pub never-wrong : after S m ls .phase ≡ ended → Impossible S
+
+-- a finding that accepts, after any lines since an opening on S, means that every profile breaks a rule of S
+abbrev pub Found-rightly : Court → Result (Unit {0}) Refusal → Type 0
+Found-rightly c r = (S : Sheet) (m : ℕ) (ls : List Line) → Proper S → c ≡ after S m ls → isOk r ≡ true → Impossible S

@@ -7,6 +7,7 @@ mod ask;
 pub mod check;
 mod hear;
 mod look;
+pub mod opening;
 pub mod take;
 
 // A judge over a problem, with a work area of its own.
