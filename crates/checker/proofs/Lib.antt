@@ -5,3 +5,4 @@ pub mod Stepping
 pub mod Values
 pub mod Soundness
 pub mod Properness
+pub mod Gathering

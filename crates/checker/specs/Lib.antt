@@ -3,3 +3,4 @@ pub mod Courts
 pub mod Hearing
 pub mod Steps
 pub mod Findings
+pub mod Openings

@@ -2,9 +2,9 @@ use crate::state::State;
 use blocks::problem::Problem;
 use blocks::slot::Slot;
 
-pub mod finding;
 mod ask;
 pub mod check;
+pub mod finding;
 mod hear;
 mod look;
 pub mod opening;
