@@ -4,3 +4,4 @@ pub mod Hearing
 pub mod Steps
 pub mod Findings
 pub mod Openings
+pub mod Examples
