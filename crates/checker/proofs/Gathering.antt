@@ -21,6 +21,7 @@ use Rattle.blocks.specs.Rules.{Meets-rule, rule-block, admit-checks, with-rule,
 use Rattle.blocks.specs.Problems.{sheet-of}
 use Rattle.blocks.specs.RuleSets.{sheet-in}
 use Rattle.blocks.specs.Sheets.{Sheet, Breaks}
+use Rattle.blocks.specs.Views.{last-at}
 use Rattle.blocks.proofs.Breaking.{block-breaks}
 use Rattle.checker.specs.Openings.{Meets-all, Never-accepts, Gathered}
 use Rattle.checker.proofs.Asking.{same-some}
@@ -89,9 +90,11 @@ same-last (r ∷ rules) S = same-last rules (with-rule S r)
 pub gathered : (l : Lasts) (rules : List (List Bound)) (place : RuleSet) → sheet-in place ≡ with-rules (sheet-of l []) rules → Gathered l rules place
 gathered l rules place is = record { stand = is; never-accepts = never }
   where
-    never : Never-accepts (sheet-in place) rules
+    last : sheet-in place .last ≡ last-at l
+    last = ap (λ (S : Sheet). S .last) is ∙ same-last rules (sheet-of l [])
+
+    never : Never-accepts (sheet-in place) (last-at l) rules
     never (x, w, m) slots ls ends =
-        let k = judges-rightly (sheet-in place) (set-proper place) slots ls .never-wrong ends x w in
-        let whole : In (everything (sheet-of l [] .last)) x = subst (λ (last : ℕ → ℕ). In (everything last) x) (ap (λ (S : Sheet). S .last) is ∙ same-last rules (sheet-of l [])) w in
-        let b = breaks-earlier rules (sheet-of l []) x whole m (subst (λ (S : Sheet). Breaks S x) is k) in
+        let k = judges-rightly (sheet-in place) (set-proper place) slots ls .never-wrong ends x (subst (λ (f : ℕ → ℕ). In (everything f) x) (sym last) w) in
+        let b = breaks-earlier rules (sheet-of l []) x w m (subst (λ (S : Sheet). Breaks S x) is k) in
         none-some (b .2)

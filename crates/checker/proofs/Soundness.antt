@@ -203,9 +203,10 @@ module _ (S : Sheet) (proper : Proper S) where
         never-wrong = λ e. subst Impossible (g .sheet) (g .fair .end e);
       }
 
-ended-accepts : (p : Phase) (n : ℕ) (r : Result (Unit {0}) Refusal) → Outcome (finding-checks p n) (λ _. Unit {0}) r → isOk r ≡ true → p ≡ ended
-ended-accepts p n (Ok u) o e = o .0 .0
-ended-accepts p n (Err f) o e = absurd (false≢true e)
+-- who accepts has ended
+pub accepts-ended : (p : Phase) (n : ℕ) (r : Result (Unit {0}) Refusal) → Outcome (finding-checks p n) (λ _. Unit {0}) r → isOk r ≡ true → p ≡ ended
+accepts-ended p n (Ok u) o e = o .0 .0
+accepts-ended p n (Err f) o e = absurd (false≢true e)
 
 pub found-rightly : (c : Court) (r : Result (Unit {0}) Refusal) → Outcome (finding-checks (c .phase) (c .line)) (λ _. Unit {0}) r → Found-rightly c r
-found-rightly c r o S m ls proper is e = judges-rightly S proper m ls .never-wrong (ap (λ (d : Court). d .phase) (sym is) ∙ ended-accepts (c .phase) (c .line) r o e)
+found-rightly c r o S m ls proper is e = judges-rightly S proper m ls .never-wrong (ap (λ (d : Court). d .phase) (sym is) ∙ accepts-ended (c .phase) (c .line) r o e)

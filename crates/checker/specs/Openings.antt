@@ -18,6 +18,7 @@ use Rattle.blocks.specs.Rules.{Meets-rule, with-rules, rules-checks}
 use Rattle.blocks.specs.Problems.{sheet-of}
 use Rattle.blocks.specs.RuleSets.{sheet-in}
 use Rattle.blocks.specs.Sheets.{Sheet}
+use Rattle.blocks.specs.Views.{last-at}
 use Rattle.checker.specs.Courts.{ended}
 use Rattle.checker.specs.Findings.{after}
 
@@ -37,14 +38,14 @@ Meets-all x (r ∷ rs) = Meets-rule x r × Meets-all x rs
 abbrev pub Possible : (ℕ → ℕ) → List (List Bound) → Type 0
 Possible last rules = (x : Profile) × In (everything last) x × Meets-all x rules
 
--- a judge over the sheet does not accept while the rules are possible, whatever its area is and whatever lines it is sent
-abbrev pub Never-accepts : Sheet → List (List Bound) → Type 0
-Never-accepts S rules = Possible (S .last) rules → (m : ℕ) (ls : List Line) → after S m ls .phase ≡ ended → ⊥
+-- a judge over the sheet does not accept while some profile meets the rules, whatever its area is and whatever lines it is sent
+abbrev pub Never-accepts : Sheet → (ℕ → ℕ) → List (List Bound) → Type 0
+Never-accepts S last rules = Possible last rules → (m : ℕ) (ls : List Line) → after S m ls .phase ≡ ended → ⊥
 
 -- the rules stand in the place, in order
 pub record Gathered (l : Lasts) (rules : List (List Bound)) (place : RuleSet) : Type 0 where
   pub stand : sheet-in place ≡ with-rules (sheet-of l []) rules
-  pub never-accepts : Never-accepts (sheet-in place) rules
+  pub never-accepts : Never-accepts (sheet-in place) (last-at l) rules
 
 -- all rules are admitted, one after the other, and stand in the place; or the first refusal, and the place is as it was
 abbrev pub Opens : Lasts → List (List Bound) → RuleSet → Result (Unit {0}) Refusal → RuleSet → Type 0
