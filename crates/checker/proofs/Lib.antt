@@ -1,0 +1,8 @@
+pub mod Looking
+pub mod Asking
+pub mod Deciding
+pub mod Stepping
+pub mod Values
+pub mod Soundness
+pub mod Properness
+pub mod Gathering
