@@ -10,3 +10,4 @@ pub mod Numbered
 pub mod Breaking
 pub mod Posting
 pub mod Numbers
+pub mod Properness

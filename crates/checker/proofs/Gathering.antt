@@ -26,7 +26,7 @@ use Rattle.blocks.proofs.Breaking.{block-breaks}
 use Rattle.checker.specs.Openings.{Meets-all, Never-accepts, Gathered}
 use Rattle.checker.proofs.Asking.{same-some}
 use Rattle.checker.proofs.Stepping.{none-some}
-use Rattle.checker.proofs.Properness.{set-proper}
+use Rattle.blocks.proofs.Properness.{set-proper}
 use Rattle.checker.proofs.Soundness.{judges-rightly}
 
 -- the rules from the i-th on, over the sheet T, come to what all of them come to over S

@@ -4,5 +4,4 @@ pub mod Deciding
 pub mod Stepping
 pub mod Values
 pub mod Soundness
-pub mod Properness
 pub mod Gathering

@@ -20,6 +20,7 @@ use Rattle.blocks.specs.Status.{BoundOf, True, False, Open, Dead, Broken, Forci
 use Rattle.blocks.specs.Sheets.{Sheet, Proper, block-at}
 use Rattle.blocks.specs.declared.line.Line.{Line}
 use Rattle.search.specs.Search.{Entry, decided, forced, bound-of, region, Is-reason, State, cold, Outcome, learnt, over, Analysis, out, pass, into, stop, Free-slot, Verdict, found, none, no-slot, blocks-of, region-of, Conflict, Step, force, decide, learn, Ends, all-dead, run-out, full, Steps, here, on, Run}
+use Rattle.search.specs.Laws.{Mem, Distinct}
 use Rattle.blocks.proofs.Ranging.{OpenAt, TrueAt, Covers, narrow-true, narrow-inside, true-inside, resolve-at}
 use Rattle.search.proofs.Sound.{Sound, Good, sound-open, region-stands, steps-good, good-start}
 use Rattle.blocks.proofs.Numbers.{block-at-start as start-blocks}
@@ -102,15 +103,7 @@ number-below n t l = subst (λ x. number n t < x) same (mul-lt-mul-of-pos-right 
     same : 3 ^ length t * 3 ^ (n - length t) ≡ 3 ^ n
     same = sym (pow-add 3 (length t) (n - length t)) ∙ ap (λ x. 3 ^ x) (omega arith)
 
--- membership, and lists whose members differ
-abbrev pub Mem : {A : Type 0} → A → List A → Type 0
-Mem x [] = ⊥
-Mem x (y ∷ ys) = (x ≡ y) ⊎ Mem x ys
-
-abbrev pub Distinct : {A : Type 0} → List A → Type 0
-Distinct [] = Unit {0}
-Distinct (x ∷ xs) = (¬ Mem x xs) × Distinct xs
-
+-- members of lists that differ
 module _ {A : Type 0} where
   without : (x : A) (ys : List A) → Mem x ys → List A
   without x [] m = []

@@ -7,7 +7,6 @@ pub mod Feeding
 pub mod Scanning
 pub mod Trailing
 pub mod Looking
-pub mod Properly
 pub mod Analysing
 pub mod Joining
 pub mod Keeping

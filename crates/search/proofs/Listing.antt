@@ -21,7 +21,8 @@ use Rattle.blocks.specs.Sheets.{Sheet, Proper}
 use Rattle.blocks.specs.Status.{BoundOf}
 use Rattle.blocks.proofs.Numbers.{some-same}
 use Rattle.search.specs.Search.{State, cold, Verdict, no-slot, Step, Steps, Run}
-use Rattle.search.proofs.Ends.{Mem, From, Lists, left, trail-short, step-falls, never-full}
+use Rattle.search.specs.Laws.{Mem}
+use Rattle.search.proofs.Ends.{From, Lists, left, trail-short, step-falls, never-full}
 use Rattle.search.proofs.Total.{none-some, rank-below, run-exists}
 
 module _ {A : Type 0} (x : A) where
@@ -47,18 +48,16 @@ below last b β (suc n) l k = elim (cases-eq (setting β) n)
     | inr ne ↦ mem-left β (bounds-below last b n) (bounds-at last b n) (below last b β n (omega arith) k) ]
 
 -- those of all rules, in order
-pub bounds-of-all : (ℕ → ℕ) → List Ranges → List Bound
+abbrev pub bounds-of-all : (ℕ → ℕ) → List Ranges → List Bound
 bounds-of-all last [] = []
 bounds-of-all last (b ∷ bs) = bounds-below last b 12 ++ bounds-of-all last bs
 
 each : (last : ℕ → ℕ) (bs : List Ranges) (i : ℕ) (b : Ranges) → nth bs i ≡ Some b → (β : Bound) → Mem β (bounds-below last b 12) → Mem β (bounds-of-all last bs)
-unfolding bounds-of-all
 each last [] i b e β m = absurd (none-some e)
 each last (a ∷ bs) zero b e β m = mem-left β (bounds-below last a 12) (bounds-of-all last bs) (subst (λ (x : Ranges). Mem β (bounds-below last x 12)) (some-same e refl) m)
 each last (a ∷ bs) (suc i) b e β m = mem-right β (bounds-below last a 12) (bounds-of-all last bs) (each last bs i b e β m)
 
 few : (last : ℕ → ℕ) (bs : List Ranges) → ((i : ℕ) (b : Ranges) → nth bs i ≡ Some b → length (bounds-below last b 12) ≤ 4) → length (bounds-of-all last bs) ≤ 4 * length bs
-unfolding bounds-of-all
 few last [] four = omega arith
 few last (b ∷ bs) four = omega (arith, length-append (bounds-below last b 12) (bounds-of-all last bs), four 0 b refl, few last bs (λ i. four (suc i)))
 
@@ -89,5 +88,5 @@ module _ (S : Sheet) (pr : Proper S) where
   free-193 m l = never-full S pr all listed m (omega (arith, at-most-192))
 
   -- and every search comes to an end
-  pub always-ends : (m : ℕ) → (ls : List Line) × (v : Verdict) × (end : State) × Run S m cold ls v end
+  abbrev pub always-ends : (m : ℕ) → (ls : List Line) × (v : Verdict) × (end : State) × Run S m cold ls v end
   always-ends m = run-exists S pr all listed m

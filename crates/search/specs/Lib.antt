@@ -8,3 +8,4 @@ pub mod Courses
 pub mod Analyses
 pub mod Moves
 pub mod Solve
+pub mod Laws

@@ -6,7 +6,7 @@ use Rattle.blocks.specs.Problems.{posed}
 use Rattle.blocks.specs.Ranges.{Ranges}
 use Rattle.blocks.specs.Slots.{holdings}
 use Rattle.checker.specs.Courts.{Court, idle}
-use Rattle.checker.proofs.Properness.{problem-proper}
+use Rattle.blocks.proofs.Properness.{problem-proper}
 use Rattle.checker.proofs.Soundness.{judges-rightly}
 use Rattle.checker.proofs.Values.{empty-holds-nothing}
 use Rattle.checker.proofs.judge.Judge.new.Needs as need

@@ -27,7 +27,7 @@ use Rattle.search.specs.Moves.{Moved, Keeps, Learnt}
 use Rattle.search.specs.Numbers.{numbered}
 use Rattle.search.specs.Tallies.{Feed, feed, fed}
 use Rattle.search.proofs.Looking.{read-here}
-use Rattle.search.proofs.Properly.{posed-proper}
+use Rattle.blocks.proofs.Properness.{problem-proper}
 use Rattle.search.proofs.Total.{none-some}
 use Rattle.search.proofs.Conflicting.{ready, stops-over, learnt-here, moved-by}
 use Rattle.search.proofs.moves.learn.conflict.Needs as need
@@ -49,7 +49,7 @@ analyse-requires g c κs =
     let is = c .in-Some .ensures tt ∙ ap (λ (f : ℕ → Option Ranges). f (c .args .number)) (read-here _ _ area (course .filled) (c .rules .ensures)) in
     let p = posed (c .args .problem .now) in
     subst (λ (n : ℕ). Ready p (slot-at (take n area)) (course .trail) (ranges (course .region)) (ranges (c .in-Some .work))) (sym z)
-        (ready (g .K·Sink .step) p (posed-proper (c .args .problem .now)) course area (c .pre .0) (c .args .number) (c .pre .1) (ranges (c .in-Some .work)) is)
+        (ready (g .K·Sink .step) p (problem-proper (c .args .problem .now)) course area (c .pre .0) (c .args .number) (c .pre .1) (ranges (c .in-Some .work)) is)
 
 pub keep-requires : need.keep-requires
 keep-requires g c κs =
@@ -66,7 +66,7 @@ keep-requires g c κs =
     let w = ranges (c .in-Some .work) in
     let w′ = ranges (c .analyse .last .work) in
     let n = c .in-Before .n in
-    learnt-here step p (posed-proper (c .args .problem .now)) course area (c .pre .0) (c .args .number) (c .pre .1) w is f f₂ g′ w′
+    learnt-here step p (problem-proper (c .args .problem .now)) course area (c .pre .0) (c .args .number) (c .pre .1) w is f f₂ g′ w′
         n (taken step p area (course .filled) (course .trail) w f₁ (fed step f (t-line (c .args .number))) (Before n) g′ w′ f₂ sent (c .in-Before .ensures tt .did))
         (record { trail = c .cut .last .self; region = c .analyse .last .region; filled = course .filled; next = course .next }) (c .cut .ensures .entries) (c .cut .ensures .len) refl refl refl
 
@@ -85,7 +85,7 @@ returns-in-Over g c =
     let w = ranges (c .in-Some .work) in
     let w′ = ranges (c .analyse .last .work) in
     record {
-      moved = stops-over step p (posed-proper (c .args .problem .now)) course area (c .pre .0) (c .args .number) (c .pre .1) w is f f₂ g′ w′
+      moved = stops-over step p (problem-proper (c .args .problem .now)) course area (c .pre .0) (c .args .number) (c .pre .1) w is f f₂ g′ w′
           (taken step p area (course .filled) (course .trail) w f₁ (fed step f (t-line (c .args .number))) Over g′ w′ f₂ sent (c .in-Over .ensures tt .did)) course;
       kept = c .in-Over .ensures tt .kept ∙ c .send .ensures .kept;
     }
@@ -106,7 +106,7 @@ returns-in-Before g c =
     let w′ = ranges (c .analyse .last .work) in
     let n = c .in-Before .n in
     record {
-      moved = moved-by step p (posed-proper (c .args .problem .now)) course area (c .pre .0) (c .args .number) (c .pre .1) w is f f₂ g′ w′
+      moved = moved-by step p (problem-proper (c .args .problem .now)) course area (c .pre .0) (c .args .number) (c .pre .1) w is f f₂ g′ w′
           n (taken step p area (course .filled) (course .trail) w f₁ (fed step f (t-line (c .args .number))) (Before n) g′ w′ f₂ sent (c .in-Before .ensures tt .did))
           (record { trail = c .cut .last .self; region = c .analyse .last .region; filled = course .filled; next = course .next }) (c .cut .ensures .entries) (c .cut .ensures .len) refl refl refl
           (c .keep .result) (c .keep .last .course) (c .keep .last .area) (feed (c .keep .last .tally) (g .K·Sink .model (c .keep .last .sink))) (c .keep .ensures .did);

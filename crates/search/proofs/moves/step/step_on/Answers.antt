@@ -17,7 +17,7 @@ use Rattle.search.specs.Scans.{Scanned}
 use Rattle.search.specs.Tallies.{feed}
 use Rattle.search.proofs.Joining.{open-profile}
 use Rattle.search.proofs.Looking.{read-here, scanned-here}
-use Rattle.search.proofs.Properly.{posed-proper}
+use Rattle.blocks.proofs.Properness.{problem-proper}
 use Rattle.search.proofs.Stepping.{region-here, block-here, room-for, breaks-first, forces-first, stops-found, opens-first, first-open-here, goes-on}
 use Rattle.search.proofs.moves.step.step_on.Needs as need
 
@@ -26,7 +26,7 @@ conflict-requires g c κs =
     let course = c .args .course .now in
     let area = c .args .area .now in
     let S = posed (c .args .problem .now) in
-    let pr = posed-proper (c .args .problem .now) in
+    let pr = problem-proper (c .args .problem .now) in
     let k = c .in-Broken .number in
     (c .pre, breaks-first S pr course area (c .pre) k (scanned-here _ _ area (course .filled) (c .rules .ensures) (c .pre .kept .filled) (ranges (course .region)) (Broken k) (c .in-Broken .ensures tt)))
 
@@ -35,7 +35,7 @@ join-requires g c κs =
     let course = c .args .course .now in
     let area = c .args .area .now in
     let S = posed (c .args .problem .now) in
-    let pr = posed-proper (c .args .problem .now) in
+    let pr = problem-proper (c .args .problem .now) in
     let k = c .in-Forcing .number in
     let t = c .in-Forcing .bound in
     let h = forces-first S pr course area (c .pre) k t (scanned-here _ _ area (course .filled) (c .rules .ensures) (c .pre .kept .filled) (ranges (course .region)) (Forcing k t) (c .in-Forcing .ensures tt)) in
@@ -51,7 +51,7 @@ decide-requires g c κs =
     let course = c .args .course .now in
     let area = c .args .area .now in
     let S = posed (c .args .problem .now) in
-    let pr = posed-proper (c .args .problem .now) in
+    let pr = problem-proper (c .args .problem .now) in
     let k = c .in-Some .number in
     let h = opens-first S pr course area (c .pre) k (subst (λ (a : Option ℕ). Scanned (ranges (course .region)) (blocks-of S (length area) (state-of course area)) (100 + course .filled) (Quiet a)) (c .in-Some .is) (scanned-here _ _ area (course .filled) (c .rules .ensures) (c .pre .kept .filled) (ranges (course .region)) (Quiet (c .in-Quiet .alive)) (c .in-Quiet .ensures tt))) in
     let there = ap (λ (f : ℕ → Option Ranges). f k) (read-here _ _ area (course .filled) (c .rules .ensures)) ∙ h .there in
@@ -66,7 +66,7 @@ returns-in-Forcing g c =
     let course = c .args .course .now in
     let area = c .args .area .now in
     let S = posed (c .args .problem .now) in
-    let pr = posed-proper (c .args .problem .now) in
+    let pr = problem-proper (c .args .problem .now) in
     let k = c .in-Forcing .number in
     let t = c .in-Forcing .bound in
     let h = forces-first S pr course area (c .pre) k t (scanned-here _ _ area (course .filled) (c .rules .ensures) (c .pre .kept .filled) (ranges (course .region)) (Forcing k t) (c .in-Forcing .ensures tt)) in
@@ -82,7 +82,7 @@ returns-in-rest g c =
     let course = c .args .course .now in
     let area = c .args .area .now in
     let S = posed (c .args .problem .now) in
-    let pr = posed-proper (c .args .problem .now) in
+    let pr = problem-proper (c .args .problem .now) in
     record {
       moved = stops-found S pr course area (c .pre) (g .K·Sink .step) (feed (c .args .tally .now) (g .K·Sink .model (c .args .sink .now)))
           (subst (λ (a : Option ℕ). Scanned (ranges (course .region)) (blocks-of S (length area) (state-of course area)) (100 + course .filled) (Quiet a)) (c .in-rest .is) (scanned-here _ _ area (course .filled) (c .rules .ensures) (c .pre .kept .filled) (ranges (course .region)) (Quiet (c .in-Quiet .alive)) (c .in-Quiet .ensures tt)));
@@ -94,7 +94,7 @@ returns-in-Some g c =
     let course = c .args .course .now in
     let area = c .args .area .now in
     let S = posed (c .args .problem .now) in
-    let pr = posed-proper (c .args .problem .now) in
+    let pr = problem-proper (c .args .problem .now) in
     let k = c .in-Some .number in
     let h = opens-first S pr course area (c .pre) k (subst (λ (a : Option ℕ). Scanned (ranges (course .region)) (blocks-of S (length area) (state-of course area)) (100 + course .filled) (Quiet a)) (c .in-Some .is) (scanned-here _ _ area (course .filled) (c .rules .ensures) (c .pre .kept .filled) (ranges (course .region)) (Quiet (c .in-Quiet .alive)) (c .in-Quiet .ensures tt))) in
     let there = ap (λ (f : ℕ → Option Ranges). f k) (read-here _ _ area (course .filled) (c .rules .ensures)) ∙ h .there in
