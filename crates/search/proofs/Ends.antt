@@ -173,7 +173,7 @@ abbrev pub Within : List Bound → List Entry → Type 0
 Within B [] = Unit {0}
 Within B (e ∷ t) = Mem (bound-of e) B × Within B t
 
-within-mem : (B : List Bound) (t : List Entry) → Within B t → (β : Bound) → Mem β (map bound-of t) → Mem β B
+pub within-mem : (B : List Bound) (t : List Entry) → Within B t → (β : Bound) → Mem β (map bound-of t) → Mem β B
 within-mem B [] w β m = elim m [ ]
 within-mem B (e ∷ t) w β (inl p) = subst (λ x. Mem x B) (sym p) (w .0)
 within-mem B (e ∷ t) w β (inr m) = within-mem B t (w .1) β m
@@ -252,7 +252,7 @@ slot-free m t h =
     omega (arith, reasons-few t, d .1)
 
 module _ (S : Sheet) (pr : Proper S) (B : List Bound) (all : Lists S B) (m : ℕ) where
-  drawn : {st : State} {ls : List Line} → Steps S m cold ls st → Drawn S B st
+  pub drawn : {st : State} {ls : List Line} → Steps S m cold ls st → Drawn S B st
   drawn p = steps-drawn S B m p (record { trail = tt; blocks = λ k b e. all k b (start-blocks S k b e) })
 
   -- the trail is no longer than the rules have bounds

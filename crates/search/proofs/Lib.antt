@@ -15,3 +15,4 @@ pub mod Listing
 pub mod Stepping
 pub mod Running
 pub mod Solving
+pub mod Lawful

@@ -8,7 +8,7 @@ use native.Mathlib.Omega.{arith}
 use lib.Dec.{ltb}
 use lib.ListN.{length, length-append}
 use Rattle.std.specs.shelf.Maps.{nth}
-use Rattle.std.proofs.shelf.Tests.{cases-eq, lt-ltb}
+use Rattle.std.proofs.shelf.Tests.{cases-eq, cases-lt, lt-ltb, le-ltb}
 use Rattle.std.specs.declared.option.Option.{Option}
 use Rattle.std.specs.declared.option.Option.the-variants.{Some, None}
 use Rattle.blocks.specs.declared.bound.Bound.{Bound}
@@ -56,6 +56,35 @@ each : (last : ℕ → ℕ) (bs : List Ranges) (i : ℕ) (b : Ranges) → nth bs
 each last [] i b e β m = absurd (none-some e)
 each last (a ∷ bs) zero b e β m = mem-left β (bounds-below last a 12) (bounds-of-all last bs) (subst (λ (x : Ranges). Mem β (bounds-below last x 12)) (some-same e refl) m)
 each last (a ∷ bs) (suc i) b e β m = mem-right β (bounds-below last a 12) (bounds-of-all last bs) (each last bs i b e β m)
+
+-- and a bound in the list is a rule's
+split : {A : Type 0} (x : A) (xs ys : List A) → Mem x (xs ++ ys) → Mem x xs ⊎ Mem x ys
+split x [] ys m = inr m
+split x (y ∷ xs) ys (inl e) = inl (inl e)
+split x (y ∷ xs) ys (inr m) = elim (split x xs ys m) [ inl k ↦ inl (inr k) | inr k ↦ inr k ]
+
+module _ (last : ℕ → ℕ) (b : Ranges) (β : Bound) where
+  low-back : (i : ℕ) → Mem β (cond (ltb 0 (b .low i)) (AtMost i (b .low i - 1) ∷ []) []) → BoundOf last b β
+  low-back i m = elim (cases-lt 0 (b .low i))
+      [ inl l ↦ elim (rw (lt-ltb 0 (b .low i) l) at m) [ inl e ↦ let k : b .low i ≡ suc (b .low i - 1) = omega arith in subst (BoundOf last b) (sym e) k | inr n ↦ absurd n ]
+      | inr l ↦ absurd (rw (le-ltb 0 (b .low i) l) at m) ]
+
+  high-back : (i : ℕ) → Mem β (cond (ltb (b .high i) (last i)) (AtLeast i (b .high i + 1) ∷ []) []) → BoundOf last b β
+  high-back i m = elim (cases-lt (b .high i) (last i))
+      [ inl l ↦ elim (rw (lt-ltb (b .high i) (last i) l) at m) [ inl e ↦ let k : b .high i + 1 ≡ suc (b .high i) = omega arith in subst (BoundOf last b) (sym e) (k, l) | inr n ↦ absurd n ]
+      | inr l ↦ absurd (rw (le-ltb (b .high i) (last i) l) at m) ]
+
+  below-back : (n : ℕ) → Mem β (bounds-below last b n) → BoundOf last b β
+  below-back zero m = absurd m
+  below-back (suc n) m = elim (split β (bounds-below last b n) (bounds-at last b n) m)
+      [ inl k ↦ below-back n k
+      | inr k ↦ elim (split β (cond (ltb 0 (b .low n)) (AtMost n (b .low n - 1) ∷ []) []) (cond (ltb (b .high n) (last n)) (AtLeast n (b .high n + 1) ∷ []) []) k) [ inl h ↦ low-back n h | inr h ↦ high-back n h ] ]
+
+pub rule-of : (last : ℕ → ℕ) (bs : List Ranges) (β : Bound) → Mem β (bounds-of-all last bs) → (i : ℕ) × (b : Ranges) × (nth bs i ≡ Some b) × BoundOf last b β
+rule-of last [] β m = absurd m
+rule-of last (b ∷ bs) β m = elim (split β (bounds-below last b 12) (bounds-of-all last bs) m)
+    [ inl k ↦ (0, b, refl, below-back last b β 12 k)
+    | inr k ↦ let r = rule-of last bs β k in (suc (r .0), r .1, r .2, r .3) ]
 
 few : (last : ℕ → ℕ) (bs : List Ranges) → ((i : ℕ) (b : Ranges) → nth bs i ≡ Some b → length (bounds-below last b 12) ≤ 4) → length (bounds-of-all last bs) ≤ 4 * length bs
 few last [] four = omega arith

@@ -1,6 +1,7 @@
 // The search: conflict-driven clause learning over intervals.
 pub mod analyse;
 pub mod course;
+pub mod laws;
 pub mod moves;
 pub mod numbered;
 pub mod scan;
