@@ -9,3 +9,4 @@ pub mod Analyses
 pub mod Moves
 pub mod Solve
 pub mod Laws
+pub mod Examples
