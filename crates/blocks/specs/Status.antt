@@ -53,6 +53,13 @@ Status-is last g b broken = Broken last g b
 Status-is last g b (forcing t) = (β : Bound) × (t ≡ told β) × Forces last g b β
 Status-is last g b undecided = (¬ Dead last g b) × (¬ Broken last g b) × (¬ Forcing last g b)
 
+-- a status by its numbers: which of the four it is, and the numbers of the bound that is forced
+abbrev pub status-numbers : Status → ℕ × List ℕ
+status-numbers dead = (0, [])
+status-numbers broken = (1, [])
+status-numbers (forcing (s, side, p)) = (2, s ∷ side ∷ p ∷ [])
+status-numbers undecided = (3, [])
+
 -- whatever the settings' last positions are, if only the two blocks exist over them
 abbrev pub Tells : Ranges → Ranges → Status → Type 0
 Tells g b s = (last : ℕ → ℕ) → Stands last g → Stands last b → Status-is last g b s

@@ -56,8 +56,16 @@ module _ {M : Type 0} (step : M → Line → Step M) (S : Sheet) (pr : Proper S)
       let good = steps-good S (r .room) (r .steps) (good-start S pr) in
       let gs = subst (Stands (S .last)) (sym (r .left)) (region-stands (S .last) (block-at (S .rules) slots) (trail-of t) (good .trail)) in
       record {
-        few = omega arith; done = []; told = refl; leads = λ ls o a. a; left = r .left; lawful = good .blocks; sound = good .trail;
-        inside = broken-inside (S .last) g gs w₀ (r .broken); stands = good .blocks (r .number) w₀ (r .there) .0; ends = r .ends;
+        few = omega arith;
+        done = [];
+        told = refl;
+        leads = λ ls o a. a;
+        left = r .left;
+        lawful = good .blocks;
+        sound = good .trail;
+        inside = broken-inside (S .last) g gs w₀ (r .broken);
+        stands = good .blocks (r .number) w₀ (r .there) .0;
+        ends = r .ends;
       }
 
   -- one entry back
@@ -97,9 +105,16 @@ module _ {M : Type 0} (step : M → Line → Step M) (S : Sheet) (pr : Proper S)
       -- not needed
       pub midway-pass : Inside h w → Midway n h w f
       midway-pass i = record {
-        few = let k = mid .few in omega arith; done = mid .done; told = mid .told;
+        few = let k = mid .few in omega arith;
+        done = mid .done;
+        told = mid .told;
         leads = λ ls o a. mid .leads ls o (pass (subst (λ (x : Ranges). Inside x w) here i) a);
-        left = here; lawful = mid .lawful; sound = opened; inside = i; stands = mid .stands; ends = mid .ends;
+        left = here;
+        lawful = mid .lawful;
+        sound = opened;
+        inside = i;
+        stands = mid .stands;
+        ends = mid .ends;
       }
 
       -- needed and decided
@@ -108,8 +123,8 @@ module _ {M : Type 0} (step : M → Line → Step M) (S : Sheet) (pr : Proper S)
         lines = mid .done;
         analysis = subst (λ (ls : List Line). Analysis (S .last) (block-at (S .rules) slots) (trail-of t) w₀ ls (learnt w (trail-below (t .entries) n))) (append-nil (mid .done))
             (mid .leads [] (learnt w (trail-below (t .entries) n))
-              (subst (λ (x : Entry). Analysis (S .last) (block-at (S .rules) slots) (x ∷ trail-below (t .entries) n) w [] (learnt w (trail-below (t .entries) n)))
-                (sym (ap (reasoned (getD (t .entries) n no-entry .bound)) r)) (stop (λ i. out′ (subst (λ (x : Ranges). Inside x w) (sym here) i)))));
+            (subst (λ (x : Entry). Analysis (S .last) (block-at (S .rules) slots) (x ∷ trail-below (t .entries) n) w [] (learnt w (trail-below (t .entries) n)))
+            (sym (ap (reasoned (getD (t .entries) n no-entry .bound)) r)) (stop (λ i. out′ (subst (λ (x : Ranges). Inside x w) (sym here) i)))));
         told = mid .told;
         left = (let k = mid .few in omega arith, here);
       }
@@ -142,8 +157,8 @@ module _ {M : Type 0} (step : M → Line → Step M) (S : Sheet) (pr : Proper S)
               leads = λ ls o a.
                   subst (λ (ks : List Line). Analysis (S .last) (block-at (S .rules) slots) (trail-of t) w₀ ks o) (sym (append-assoc (mid .done) (l ∷ []) ls))
                   (mid .leads (l ∷ ls) o
-                    (subst (λ (x : Entry). Analysis (S .last) (block-at (S .rules) slots) (x ∷ trail-below (t .entries) n) w (l ∷ ls) o) (sym (ap (reasoned β) r))
-                      (into (λ i. out′ (subst (λ (x : Ranges). Inside x w) (sym here) i)) (s .1) (subst (λ (x : Ranges). Analysis (S .last) (block-at (S .rules) slots) (trail-below (t .entries) n) x ls o) ev a))));
+                  (subst (λ (x : Entry). Analysis (S .last) (block-at (S .rules) slots) (x ∷ trail-below (t .entries) n) w (l ∷ ls) o) (sym (ap (reasoned β) r))
+                  (into (λ i. out′ (subst (λ (x : Ranges). Inside x w) (sym here) i)) (s .1) (subst (λ (x : Ranges). Analysis (S .last) (block-at (S .rules) slots) (trail-below (t .entries) n) x ls o) ev a))));
               left = here;
               lawful = mid .lawful;
               sound = opened;

@@ -58,7 +58,14 @@ module _ {M : Type 0} (step : M → Line → Sink-step M) (S : Sheet) (pr : Prop
   module _ (w : Ranges) (is : Some w ≡ block-at (S .rules) (slot-at (take (c .filled) area)) k) where
     pub ready : Ready S (slot-at (take (c .filled) area)) (c .trail) (ranges (c .region)) w
     ready = record {
-      room = length area; next = c .next; lines = going .lines; steps = going .steps; ends = going .kept .ends; left = going .kept .left; number = k; there = sym is;
+      room = length area;
+      next = c .next;
+      lines = going .lines;
+      steps = going .steps;
+      ends = going .kept .ends;
+      left = going .kept .left;
+      number = k;
+      there = sym is;
       broken = subst (Broken (S .last) (ranges (c .region))) (same (breaks .1 .1) is) (breaks .1 .2);
     }
       where
@@ -82,9 +89,10 @@ module _ {M : Type 0} (step : M → Line → Sink-step M) (S : Sheet) (pr : Prop
         filled-reason : (j : ℕ) → Is-reason (trail-below (c .trail .entries) n) (100 + j) → j < c .filled
         filled-reason j r =
             let b = reason-known (S .last) (blocks-of S (length area) (state-of c area)) (trail-below (c .trail .entries) n) (100 + j) (came .2) r in
-            elim (cases-lt j (c .filled))
-              [ inl l ↦ l
-              | inr l ↦ absurd (none-some (sym (slot-take-past area (c .filled) j l) ∙ sym (block-at-slot (S .rules) (slot-at (take (c .filled) area)) j) ∙ b .1)) ]
+            elim (cases-lt j (c .filled)) [
+              | inl l ↦ l
+              | inr l ↦ absurd (none-some (sym (slot-take-past area (c .filled) j l) ∙ sym (block-at-slot (S .rules) (slot-at (take (c .filled) area)) j) ∙ b .1))
+            ]
 
         -- the course, cut
         module _ (c₂ : Course) (entries : c₂ .trail .entries ≡ c .trail .entries) (len : c₂ .trail .len ≡ n) (reg : ranges (c₂ .region) ≡ g′) (fil : c₂ .filled ≡ c .filled) (nex : c₂ .next ≡ c .next) where

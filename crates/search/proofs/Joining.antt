@@ -34,12 +34,14 @@ open-profile last g (AtLeast s p) st o = let k = open-at last g st (AtLeast s p)
 
 -- a bound is true, false or open
 three-at : (last : ℕ → ℕ) (g : Ranges) (β : Bound) → Stands last g → True g β ⊎ (False g β ⊎ Open g β)
-three-at last g (AtMost s p) st = elim (cases-lt p (g .high s))
-    [ inl l ↦ elim (cases-lt p (g .low s)) [ inl k ↦ inr (inl (false-at last g st (AtMost s p) .1 k)) | inr k ↦ inr (inr (open-at last g st (AtMost s p) .1 (k, l))) ]
-    | inr l ↦ inl (true-at last g st (AtMost s p) .1 l) ]
-three-at last g (AtLeast s p) st = elim (cases-lt (g .low s) p)
-    [ inl l ↦ elim (cases-lt (g .high s) p) [ inl k ↦ inr (inl (false-at last g st (AtLeast s p) .1 k)) | inr k ↦ inr (inr (open-at last g st (AtLeast s p) .1 (l, k))) ]
-    | inr l ↦ inl (true-at last g st (AtLeast s p) .1 l) ]
+three-at last g (AtMost s p) st = elim (cases-lt p (g .high s)) [
+  | inl l ↦ elim (cases-lt p (g .low s)) [ inl k ↦ inr (inl (false-at last g st (AtMost s p) .1 k)) | inr k ↦ inr (inr (open-at last g st (AtMost s p) .1 (k, l))) ]
+  | inr l ↦ inl (true-at last g st (AtMost s p) .1 l)
+]
+three-at last g (AtLeast s p) st = elim (cases-lt (g .low s) p) [
+  | inl l ↦ elim (cases-lt (g .high s) p) [ inl k ↦ inr (inl (false-at last g st (AtLeast s p) .1 k)) | inr k ↦ inr (inr (open-at last g st (AtLeast s p) .1 (l, k))) ]
+  | inr l ↦ inl (true-at last g st (AtLeast s p) .1 l)
+]
 
 -- a block that is neither dead nor broken has an open bound
 pub undecided-open : (last : ℕ → ℕ) (g b : Ranges) → Stands last g → Stands last b → Tells g b undecided → Tells-first g b None → ⊥
@@ -52,7 +54,7 @@ pub forces-told : (last : ℕ → ℕ) (g b : Ranges) (β : Bound) → Stands la
 forces-told last g b β sg sb f dead t n = let d = t last sg sb in not-both d
   where
     not-both : Dead last g b → ⊥
-    not-both (γ , k , tr) = f .others γ k (λ e. f .open′ .0 (subst (True g) e tr)) (g .low) (λ i. let s = sg i in (omega arith, omega arith)) (tr (g .low) (λ i. let s = sg i in (omega arith, omega arith)))
+    not-both (γ, k, tr) = f .others γ k (λ e. f .open′ .0 (subst (True g) e tr)) (g .low) (λ i. let s = sg i in (omega arith, omega arith)) (tr (g .low) (λ i. let s = sg i in (omega arith, omega arith)))
 forces-told last g b β sg sb f broken t n = f .open′ .1 (t last sg sb β (f .bound))
 forces-told last g b β sg sb f (forcing u) t n = n u refl
 forces-told last g b β sg sb f undecided t n = t last sg sb .2 (β, f)
@@ -89,12 +91,14 @@ module _ (last : ℕ → ℕ) (c c′ : Course) (β : Bound) (r : Reason) (sized
     where
       Kept-at : ℕ → Type 0
       Kept-at k = getD (set (c .trail .entries) (c .trail .len) new) k no-entry .end ≡ end (getD (set (c .trail .entries) (c .trail .len) new) k no-entry .bound) (region last (trail-below (set (c .trail .entries) (c .trail .len) new) k))
+
       old : (k : ℕ) → k < c .trail .len → Kept-at k
       old k l =
           let ne : k ≢ c .trail .len = λ q. omega arith in
           let a : getD (set (c .trail .entries) (c .trail .len) new) k no-entry ≡ getD (c .trail .entries) k no-entry = getD-set-other (c .trail .entries) (c .trail .len) k new no-entry ne in
           let b = below-set (c .trail .entries) (c .trail .len) new k (omega arith) in
           ap (λ (e : TrailEntry). e .end) a ∙ ends k l ∙ sym (λ i. end (a i .bound) (region last (b i)))
+
       now′ : Kept-at (c .trail .len)
       now′ =
           let b = below-set (c .trail .entries) (c .trail .len) new (c .trail .len) (omega arith) in

@@ -67,9 +67,10 @@ nth-apart (x ∷ xs) (suc i) s (suc j) n = nth-apart xs i s j (λ e. n (ap suc e
 
 -- the first free slot is a filled one or the one right behind
 slot-low : (m next filled : ℕ) (t : List Entry) (j : ℕ) → next ≤ filled → filled ≤ m → ((i : ℕ) → Is-reason t (100 + i) → i < filled) → Free-slot m next t j → j ≤ filled
-slot-low m next filled t j a b reasons free = elim (cases-lt filled m)
-    [ inl l ↦ near (elim (cases-lt (turn m next filled) (turn m next j)) [ inl k ↦ let r = reasons filled (free .before filled l k) in absurd (omega arith) | inr k ↦ k ])
-    | inr l ↦ let h = free .inside in omega arith ]
+slot-low m next filled t j a b reasons free = elim (cases-lt filled m) [
+  | inl l ↦ near (elim (cases-lt (turn m next filled) (turn m next j)) [ inl k ↦ let r = reasons filled (free .before filled l k) in absurd (omega arith) | inr k ↦ k ])
+  | inr l ↦ let h = free .inside in omega arith
+]
   where
     near : turn m next j ≤ turn m next filled → j ≤ filled
     near h = let i = free .inside in grind (arith, tells)
@@ -85,15 +86,17 @@ module _ {M : Type 0} (step : M → Line → Step M) (S : Sheet) (w : Block) (c 
   area′ = set area slot (Filled w)
 
   after : (j : ℕ) → slot-at (take filled′ area′) j ≡ update eqb (slot-at (take (c .filled) area)) slot (Some (ranges w)) j
-  after j = elim (cases-eq j slot)
-      [ inl e ↦ subst (λ (i : ℕ). slot-at (take filled′ area′) i ≡ update eqb (slot-at (take (c .filled) area)) slot (Some (ranges w)) i) (sym e)
-          (slot-take area′ filled′ slot (omega arith) ∙ set-here area slot (Filled w) (free .inside) ∙ sym (update-here (slot-at (take (c .filled) area)) slot (Some (ranges w))))
-      | inr n ↦ other n ]
+  after j = elim (cases-eq j slot) [
+    | inl e ↦ subst (λ (i : ℕ). slot-at (take filled′ area′) i ≡ update eqb (slot-at (take (c .filled) area)) slot (Some (ranges w)) i) (sym e)
+        (slot-take area′ filled′ slot (omega arith) ∙ set-here area slot (Filled w) (free .inside) ∙ sym (update-here (slot-at (take (c .filled) area)) slot (Some (ranges w))))
+    | inr n ↦ other n
+  ]
     where
       other : j ≢ slot → slot-at (take filled′ area′) j ≡ update eqb (slot-at (take (c .filled) area)) slot (Some (ranges w)) j
-      other n = elim (cases-lt j (c .filled))
-          [ inl l ↦ slot-take area′ filled′ j (omega arith) ∙ set-apart area slot (Filled w) j n ∙ sym (slot-take area (c .filled) j l) ∙ sym (update-apart (slot-at (take (c .filled) area)) slot (Some (ranges w)) j n)
-          | inr l ↦ let k = low in slot-take-past area′ filled′ j (omega arith) ∙ sym (slot-take-past area (c .filled) j l) ∙ sym (update-apart (slot-at (take (c .filled) area)) slot (Some (ranges w)) j n) ]
+      other n = elim (cases-lt j (c .filled)) [
+        | inl l ↦ slot-take area′ filled′ j (omega arith) ∙ set-apart area slot (Filled w) j n ∙ sym (slot-take area (c .filled) j l) ∙ sym (update-apart (slot-at (take (c .filled) area)) slot (Some (ranges w)) j n)
+        | inr l ↦ let k = low in slot-take-past area′ filled′ j (omega arith) ∙ sym (slot-take-past area (c .filled) j l) ∙ sym (update-apart (slot-at (take (c .filled) area)) slot (Some (ranges w)) j n)
+      ]
 
   module _ (β : Bound) (f : Forces (S .last) (ranges (c .region)) (ranges w) β) (c′ : Course) (sized : length (c .trail .entries) ≡ 192)
       (join : Joined (record { trail = c .trail; region = c .region; filled = max (c .filled) (slot + 1); next = slot + 1 }) β (Forced (100 + slot)) c′)
@@ -123,9 +126,10 @@ module _ {M : Type 0} (step : M → Line → Step M) (S : Sheet) (w : Block) (c 
             room = let r = k .room in omega arith;
             filled = let q = k .filled in omega arith;
             next = omega arith;
-            full = λ j l. elim (cases-eq j slot)
-              [ inl e ↦ (ranges w, subst (λ (i : ℕ). slot-at (set area slot (Filled w)) i ≡ Some (ranges w)) (sym e) (set-here area slot (Filled w) ins))
-              | inr n ↦ let o = k .full j (omega arith) in (o .0, set-apart area slot (Filled w) j n ∙ o .1) ];
+            full = λ j l. elim (cases-eq j slot) [
+              | inl e ↦ (ranges w, subst (λ (i : ℕ). slot-at (set area slot (Filled w)) i ≡ Some (ranges w)) (sym e) (set-here area slot (Filled w) ins))
+              | inr n ↦ let o = k .full j (omega arith) in (o .0, set-apart area slot (Filled w) j n ∙ o .1)
+            ];
           };
           trail = joined-trail (S .last) c₁ c′ β (Forced (100 + slot)) sized (learnt .short) join (k .left);
           slots = ap (λ (n : ℕ). slot-at (take n (set area slot (Filled w)))) fi ∙ (λ i j. after j i);

@@ -22,22 +22,26 @@ use Rattle.search.proofs.Listing.{bounds-of-all, listed, rule-of, free-193, al
 module _ (last : ℕ → ℕ) (i : ℕ) where
   low-one : (g : Ranges) (β : Bound) (βs : List Bound) → (g .low i ≡ 0) ⊎ Mem (AtLeast i (g .low i)) βs → (narrow β g .low i ≡ 0) ⊎ Mem (AtLeast i (narrow β g .low i)) (β ∷ βs)
   low-one g (AtMost s p) βs h = elim h [ inl e ↦ inl e | inr k ↦ inr (inr k) ]
-  low-one g (AtLeast s p) βs h = elim (narrow-low g s p i)
-      [ inl w ↦ elim (cases-lt (g .low i) p)
-          [ inl l ↦ inr (inl (ap₂ AtLeast (w .0) (let e = w .1 in omega arith)))
-          | inr l ↦ kept (let e = w .1 in omega arith) ]
-      | inr w ↦ kept (w .1) ]
+  low-one g (AtLeast s p) βs h = elim (narrow-low g s p i) [
+    | inl w ↦ elim (cases-lt (g .low i) p) [
+      | inl l ↦ inr (inl (ap₂ AtLeast (w .0) (let e = w .1 in omega arith)))
+      | inr l ↦ kept (let e = w .1 in omega arith)
+    ]
+    | inr w ↦ kept (w .1)
+  ]
     where
       kept : narrow (AtLeast s p) g .low i ≡ g .low i → (narrow (AtLeast s p) g .low i ≡ 0) ⊎ Mem (AtLeast i (narrow (AtLeast s p) g .low i)) (AtLeast s p ∷ βs)
       kept e = elim h [ inl z ↦ inl (e ∙ z) | inr k ↦ inr (inr (subst (λ (x : ℕ). Mem (AtLeast i x) βs) (sym e) k)) ]
 
   high-one : (g : Ranges) (β : Bound) (βs : List Bound) → (g .high i ≡ last i) ⊎ Mem (AtMost i (g .high i)) βs → (narrow β g .high i ≡ last i) ⊎ Mem (AtMost i (narrow β g .high i)) (β ∷ βs)
   high-one g (AtLeast s p) βs h = elim h [ inl e ↦ inl e | inr k ↦ inr (inr k) ]
-  high-one g (AtMost s p) βs h = elim (narrow-high g s p i)
-      [ inl w ↦ elim (cases-lt p (g .high i))
-          [ inl l ↦ inr (inl (ap₂ AtMost (w .0) (let e = w .1 in omega arith)))
-          | inr l ↦ kept (let e = w .1 in omega arith) ]
-      | inr w ↦ kept (w .1) ]
+  high-one g (AtMost s p) βs h = elim (narrow-high g s p i) [
+    | inl w ↦ elim (cases-lt p (g .high i)) [
+      | inl l ↦ inr (inl (ap₂ AtMost (w .0) (let e = w .1 in omega arith)))
+      | inr l ↦ kept (let e = w .1 in omega arith)
+    ]
+    | inr w ↦ kept (w .1)
+  ]
     where
       kept : narrow (AtMost s p) g .high i ≡ g .high i → (narrow (AtMost s p) g .high i ≡ last i) ⊎ Mem (AtMost i (narrow (AtMost s p) g .high i)) (AtMost s p ∷ βs)
       kept e = elim h [ inl z ↦ inl (e ∙ z) | inr k ↦ inr (inr (subst (λ (x : ℕ). Mem (AtMost i x) βs) (sym e) k)) ]

@@ -43,9 +43,10 @@ at-setting last b (AtLeast s p) e = rw (lt-ltb (b .high s) (last s) (e .1))
 
 below : (last : ℕ → ℕ) (b : Ranges) (β : Bound) (n : ℕ) → setting β < n → BoundOf last b β → Mem β (bounds-below last b n)
 below last b β zero l k = absurd (omega arith)
-below last b β (suc n) l k = elim (cases-eq (setting β) n)
-    [ inl e ↦ mem-right β (bounds-below last b n) (bounds-at last b n) (subst (λ (i : ℕ). Mem β (bounds-at last b i)) e (at-setting last b β k))
-    | inr ne ↦ mem-left β (bounds-below last b n) (bounds-at last b n) (below last b β n (omega arith) k) ]
+below last b β (suc n) l k = elim (cases-eq (setting β) n) [
+  | inl e ↦ mem-right β (bounds-below last b n) (bounds-at last b n) (subst (λ (i : ℕ). Mem β (bounds-at last b i)) e (at-setting last b β k))
+  | inr ne ↦ mem-left β (bounds-below last b n) (bounds-at last b n) (below last b β n (omega arith) k)
+]
 
 -- those of all rules, in order
 abbrev pub bounds-of-all : (ℕ → ℕ) → List Ranges → List Bound
@@ -65,26 +66,30 @@ split x (y ∷ xs) ys (inr m) = elim (split x xs ys m) [ inl k ↦ inl (inr k) |
 
 module _ (last : ℕ → ℕ) (b : Ranges) (β : Bound) where
   low-back : (i : ℕ) → Mem β (cond (ltb 0 (b .low i)) (AtMost i (b .low i - 1) ∷ []) []) → BoundOf last b β
-  low-back i m = elim (cases-lt 0 (b .low i))
-      [ inl l ↦ elim (rw (lt-ltb 0 (b .low i) l) at m) [ inl e ↦ let k : b .low i ≡ suc (b .low i - 1) = omega arith in subst (BoundOf last b) (sym e) k | inr n ↦ absurd n ]
-      | inr l ↦ absurd (rw (le-ltb 0 (b .low i) l) at m) ]
+  low-back i m = elim (cases-lt 0 (b .low i)) [
+    | inl l ↦ elim (rw (lt-ltb 0 (b .low i) l) at m) [ inl e ↦ let k : b .low i ≡ suc (b .low i - 1) = omega arith in subst (BoundOf last b) (sym e) k | inr n ↦ absurd n ]
+    | inr l ↦ absurd (rw (le-ltb 0 (b .low i) l) at m)
+  ]
 
   high-back : (i : ℕ) → Mem β (cond (ltb (b .high i) (last i)) (AtLeast i (b .high i + 1) ∷ []) []) → BoundOf last b β
-  high-back i m = elim (cases-lt (b .high i) (last i))
-      [ inl l ↦ elim (rw (lt-ltb (b .high i) (last i) l) at m) [ inl e ↦ let k : b .high i + 1 ≡ suc (b .high i) = omega arith in subst (BoundOf last b) (sym e) (k, l) | inr n ↦ absurd n ]
-      | inr l ↦ absurd (rw (le-ltb (b .high i) (last i) l) at m) ]
+  high-back i m = elim (cases-lt (b .high i) (last i)) [
+    | inl l ↦ elim (rw (lt-ltb (b .high i) (last i) l) at m) [ inl e ↦ let k : b .high i + 1 ≡ suc (b .high i) = omega arith in subst (BoundOf last b) (sym e) (k, l) | inr n ↦ absurd n ]
+    | inr l ↦ absurd (rw (le-ltb (b .high i) (last i) l) at m)
+  ]
 
   below-back : (n : ℕ) → Mem β (bounds-below last b n) → BoundOf last b β
   below-back zero m = absurd m
-  below-back (suc n) m = elim (split β (bounds-below last b n) (bounds-at last b n) m)
-      [ inl k ↦ below-back n k
-      | inr k ↦ elim (split β (cond (ltb 0 (b .low n)) (AtMost n (b .low n - 1) ∷ []) []) (cond (ltb (b .high n) (last n)) (AtLeast n (b .high n + 1) ∷ []) []) k) [ inl h ↦ low-back n h | inr h ↦ high-back n h ] ]
+  below-back (suc n) m = elim (split β (bounds-below last b n) (bounds-at last b n) m) [
+    | inl k ↦ below-back n k
+    | inr k ↦ elim (split β (cond (ltb 0 (b .low n)) (AtMost n (b .low n - 1) ∷ []) []) (cond (ltb (b .high n) (last n)) (AtLeast n (b .high n + 1) ∷ []) []) k) [ inl h ↦ low-back n h | inr h ↦ high-back n h ]
+  ]
 
 pub rule-of : (last : ℕ → ℕ) (bs : List Ranges) (β : Bound) → Mem β (bounds-of-all last bs) → (i : ℕ) × (b : Ranges) × (nth bs i ≡ Some b) × BoundOf last b β
 rule-of last [] β m = absurd m
-rule-of last (b ∷ bs) β m = elim (split β (bounds-below last b 12) (bounds-of-all last bs) m)
-    [ inl k ↦ (0, b, refl, below-back last b β 12 k)
-    | inr k ↦ let r = rule-of last bs β k in (suc (r .0), r .1, r .2, r .3) ]
+rule-of last (b ∷ bs) β m = elim (split β (bounds-below last b 12) (bounds-of-all last bs) m) [
+  | inl k ↦ (0, b, refl, below-back last b β 12 k)
+  | inr k ↦ let r = rule-of last bs β k in (suc (r .0), r .1, r .2, r .3)
+]
 
 few : (last : ℕ → ℕ) (bs : List Ranges) → ((i : ℕ) (b : Ranges) → nth bs i ≡ Some b → length (bounds-below last b 12) ≤ 4) → length (bounds-of-all last bs) ≤ 4 * length bs
 few last [] four = omega arith

@@ -82,16 +82,18 @@ module _ (g : Ranges) (rules : List Standing) (filled : List Slot) (few : length
 
   -- what holds of each rule's block holds of each block below 100
   below-hundred : (P : Ranges → Type 0) → ((k : ℕ) → k < length rules → (b : Ranges) → holding stands rules k ≡ Some b → P b) → (k : ℕ) → k < 100 → (b : Ranges) → all k ≡ Some b → P b
-  below-hundred P h k l b e = elim (cases-lt k (length rules))
-      [ inl m ↦ h k m b (sym (rule-is k l) ∙ e)
-      | inr m ↦ absurd (none-some (sym (no-rule k m l) ∙ e)) ]
+  below-hundred P h k l b e = elim (cases-lt k (length rules)) [
+    | inl m ↦ h k m b (sym (rule-is k l) ∙ e)
+    | inr m ↦ absurd (none-some (sym (no-rule k m l) ∙ e))
+  ]
 
   -- what holds of each block below 100, and of the first j slots, holds of each below 100 + j
   below-slot : (P : Ranges → Type 0) → ((k : ℕ) → k < length rules → (b : Ranges) → holding stands rules k ≡ Some b → P b) → (j : ℕ) → ((i : ℕ) → i < j → (b : Ranges) → slot-at filled i ≡ Some b → P b)
       → (k : ℕ) → k < 100 + j → (b : Ranges) → all k ≡ Some b → P b
-  below-slot P h j s k l b e = elim (cases-lt k 100)
-      [ inl m ↦ below-hundred P h k m b e
-      | inr m ↦ s (k - 100) (omega arith) b (sym (in-slots rules filled k m) ∙ e) ]
+  below-slot P h j s k l b e = elim (cases-lt k 100) [
+    | inl m ↦ below-hundred P h k m b e
+    | inr m ↦ s (k - 100) (omega arith) b (sym (in-slots rules filled k m) ∙ e)
+  ]
 
   pub scanned-rules : (s : Scan) → ((a : Option ℕ) → s ≡ Quiet a → ⊥) → Scanned g (holding stands rules) (length rules) s → Scanned g all end s
   scanned-rules (Broken i) n h = (omega arith, (h .1 .0, rule-is i (omega arith) ∙ h .1 .1, h .1 .2), λ k l b e. h .2 k l b (sym (rule-is k (omega arith)) ∙ e))

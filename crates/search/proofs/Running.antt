@@ -81,11 +81,12 @@ module _ {M : Type 0} (step : M → Line → Sink-step M) (S : Sheet) (pr : Prop
     slots = slot-at (take (c .filled) area)
 
     by-slot : (P : ℕ → Type 0) (Q : ℕ → Ranges → Type 0) → ((j : ℕ) → c .filled ≤ j → P j) → ((j : ℕ) (b : Ranges) → j < c .filled → slots j ≡ Some b → Q j b) → (j : ℕ) → Cases (slots j) (P j) (Q j)
-    by-slot P Q none some j = elim (cases-lt j (c .filled))
-        [ inl l ↦ let b = u .going .kept .full j l in
-            let is = slot-take area (c .filled) j l ∙ b .1 in
-            subst (λ (o : Option Ranges). Cases o (P j) (Q j)) (sym is) (some j (b .0) l is)
-        | inr l ↦ subst (λ (o : Option Ranges). Cases o (P j) (Q j)) (sym (slot-take-past area (c .filled) j l)) (none j l) ]
+    by-slot P Q none some j = elim (cases-lt j (c .filled)) [
+      | inl l ↦ let b = u .going .kept .full j l in
+          let is = slot-take area (c .filled) j l ∙ b .1 in
+          subst (λ (o : Option Ranges). Cases o (P j) (Q j)) (sym is) (some j (b .0) l is)
+      | inr l ↦ subst (λ (o : Option Ranges). Cases o (P j) (Q j)) (sym (slot-take-past area (c .filled) j l)) (none j l)
+    ]
 
     pub comes-to : (e : Ended) (c′ : Course) (area′ : List Slot) (f′ : Feed M) → Stops step S c area f e c′ area′ f′ → Ran step S area₀ area′ f₀ f′ (verdict-at (ranges (c′ .region)) e)
     comes-to e c′ area′ f′ s = record {

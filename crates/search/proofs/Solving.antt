@@ -105,4 +105,4 @@ module _ {M : Type 0} (step : M → Line → Step M) (S : Sheet) (area after : L
       let ran = subst₂ (λ (n : ℕ) (x : Ended). Ran step S (take n area) after (feed (record { lines = 0; refused = None }) from) f′ (verdict-at g x)) z same ran₀ in
       let inside : u ≤ length area = omega arith in
       subst (λ (xs : List Slot). Searched step S area (after ++ xs) from (f′ .state) (verdict-at g e′) (f′ .tally .lines) (f′ .tally .refused)) (sym (post-is 0 u area (omega arith)))
-          (searched area after u inside (ran .whole ∙ length-take-le u area inside) step S is from f′ (verdict-at g e′) ran)
+      (searched area after u inside (ran .whole ∙ length-take-le u area inside) step S is from f′ (verdict-at g e′) ran)

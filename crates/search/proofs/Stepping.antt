@@ -77,15 +77,15 @@ module _ (S : Sheet) (pr : Proper S) (c : Course) (area : List Slot) (going : Go
   left-here = stands S (length area) (state-of c area) good
 
   calm-not-hit : (k : ℕ) → Calm here at k → ¬ Hit S (length area) (state-of c area) k
-  calm-not-hit k calm (b , e , h) = elim (calm b e)
-      [ inl d ↦ let x = d (S .last) left-here (block-here k b e) in elim h [ inl y ↦ dead-not-broken S pr here left-here b x y | inr y ↦ dead-not-forcing S pr here left-here b x y ]
-      | inr u ↦ let x = u (S .last) left-here (block-here k b e) in elim h [ inl y ↦ x .1 y | inr y ↦ x .2 y ] ]
+  calm-not-hit k calm (b, e, h) = elim (calm b e) [
+    | inl d ↦ let x = d (S .last) left-here (block-here k b e) in elim h [ inl y ↦ dead-not-broken S pr here left-here b x y | inr y ↦ dead-not-forcing S pr here left-here b x y ]
+    | inr u ↦ let x = u (S .last) left-here (block-here k b e) in elim h [ inl y ↦ x .1 y | inr y ↦ x .2 y ]
+  ]
 
   pub breaks-first : (k : ℕ) → Scanned (ranges (c .region)) at (100 + c .filled) (at-broken k) → Breaks-first S c area k
   breaks-first k s₀ =
       let s = subst (λ (g : Ranges). Scanned g at (100 + c .filled) (at-broken k)) (going .kept .left) s₀ in
-      let b = s .1 in
-      (
+      let b = s .1 in (
         record { is = (b .0, b .1, inl (b .2 (S .last) left-here (block-here k (b .0) (b .1)))); before = λ j l. calm-not-hit j (s .2 j l) },
         (b .0, b .1, s₀ .1 .2 (S .last) region-here (block-here k (s₀ .1 .0) (s₀ .1 .1))),
       )

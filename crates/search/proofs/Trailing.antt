@@ -37,9 +37,10 @@ reason-cases β (Forced j) t k (inr h) = inr h
 module _ (xs : List TrailEntry) (k : ℕ) where
   pub reason-later : (n m : ℕ) → n ≤ m → Is-reason (trail-below xs n) k → Is-reason (trail-below xs m) k
   reason-later n zero l h = let e : n ≡ 0 = omega arith in subst (λ (i : ℕ). Is-reason (trail-below xs i) k) e h
-  reason-later n (suc m) l h = elim (cases-eq n (suc m))
-      [ inl e ↦ subst (λ (i : ℕ). Is-reason (trail-below xs i) k) e h
-      | inr ne ↦ reason-rest (getD xs m no-entry .bound) (getD xs m no-entry .reason) (trail-below xs m) k (reason-later n m (omega arith) h) ]
+  reason-later n (suc m) l h = elim (cases-eq n (suc m)) [
+    | inl e ↦ subst (λ (i : ℕ). Is-reason (trail-below xs i) k) e h
+    | inr ne ↦ reason-rest (getD xs m no-entry .bound) (getD xs m no-entry .reason) (trail-below xs m) k (reason-later n m (omega arith) h)
+  ]
 
   pub reason-at : (n m : ℕ) → n < m → getD xs n no-entry .reason ≡ Forced k → Is-reason (trail-below xs m) k
   reason-at n m l e = reason-later (suc n) m l (reason-first (getD xs n no-entry .bound) (getD xs n no-entry .reason) (trail-below xs n) k e)

@@ -83,7 +83,10 @@ pub(crate) fn analyse<K: Sink>(
             };
             let setting = entry.bound.setting();
             resolve_into(&blocks, block, setting, work);
-            tally.send(sink, Line::Resolve(BlockNumber::stopping(block), SettingNumber::of(setting)));
+            tally.send(
+                sink,
+                Line::Resolve(BlockNumber::stopping(block), SettingNumber::of(setting)),
+            );
         }
     }
     tally.send(sink, Line::End);

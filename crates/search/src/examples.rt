@@ -6,11 +6,9 @@ use blocks::sink::Sink;
 // Four rules that no profile meets, with the lines that show it, and a problem with nothing to meet.
 pub fn worked_searches()
     ensures { λ _. ⌜ Worked-searches ⌝ }
-{
-}
+{}
 
 // 192 slots are refused, 193 serve.
 pub fn slots_asked<K: Sink>()
     ensures { λ _. ⌜ Slots-asked (K·Sink .step) ⌝ }
-{
-}
+{}

@@ -51,7 +51,11 @@ fn run<K: Sink>(problem: &Problem<'_>, area: &mut [Slot], tally: &mut Tally, sin
 
 // Searches for a profile that meets every rule. The search uses the first 4,096 slots of the area at
 // most, counts all as empty at the start, and sends its lines to the sink as it makes them.
-pub fn solve<K: Sink>(problem: &Problem<'_>, area: &mut [Slot], sink: &mut K) -> Result<Verdict, Refusal>
+pub fn solve<K: Sink>(
+    problem: &Problem<'_>,
+    area: &mut [Slot],
+    sink: &mut K,
+) -> Result<Verdict, Refusal>
     ensures solved { λ r. ⌜ Solved step (posed (now (problem .entry))) (now (area .entry)) (now (area .exit)) (model (now (sink .entry))) (model (now (sink .exit))) r ⌝ }
     ensures kept { λ _. ⌜ lent (now (sink .exit)) ≡ lent (now (sink .entry)) ⌝ }
 {

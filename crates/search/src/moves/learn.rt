@@ -71,7 +71,15 @@ pub(crate) fn conflict<K: Sink>(
     };
     tally.send(sink, Line::Take(BlockNumber::stopping(number)));
     let mut region = course.region;
-    match analyse(problem, filled, &course.trail, &mut region, &mut work, tally, sink) {
+    match analyse(
+        problem,
+        filled,
+        &course.trail,
+        &mut region,
+        &mut work,
+        tally,
+        sink,
+    ) {
         Fell::Over => Some(Ended::Nothing),
         Fell::Before(n) => {
             course.trail.cut(n);

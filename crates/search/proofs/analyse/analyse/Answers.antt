@@ -35,13 +35,14 @@ pub loop-n-again-then-not-is-inside : need.loop-n-again-then-not-is-inside
 loop-n-again-then-not-is-inside g c =
     let k = c .in-Forced .block in
     let f = feed (c .loop-n .tally) (g .K·Sink .model (c .loop-n .sink)) in
-    let line : Resolve (c .stopping .result) (c .of .result) ≡ r-line k (c .setting-setting .result) = λ i. Resolve (c .stopping .ensures i) (c .of .ensures i) in
-    (read-into (g .K·Sink .step) (posed (c .args .problem .now)) (problem-proper (c .args .problem .now)) (slot-at (c .args .filled .now)) (c .args .trail .now) (ranges (c .args .work .now)) (feed (c .args .tally .now) (g .K·Sink .model (c .args .sink .now))) (c .loop-n .n) (ranges (c .loop-n .region)) (ranges (c .loop-n .work)) (feed (c .loop-n .tally) (g .K·Sink .model (c .loop-n .sink))) (c .loop-n-test .taken) (c .loop-n .inv .0) (c .entry-entry .result) (c .entry-entry .ensures) (ranges (c .undo .last .region)) (c .undo .ensures) k (c .in-Forced .is) (c .setting-setting .result) (c .setting-setting .ensures) (c .if-not-is-inside .ensures tt .answer)
-      (ranges (c .resolve-into .last .work))
-      (λ b e. c .resolve-into .ensures b (ap (λ (rules : List Standing). numbered rules (c .args .filled .now) k) (c .rules .ensures) ∙ e))
-      (feed (c .send .last .self) (g .K·Sink .model (c .send .last .sink)))
-      (c .send .ensures .after ∙ ap (fed (g .K·Sink .step) f) line),
-     c .send .ensures .kept ∙ c .loop-n .inv .1)
+    let line : Resolve (c .stopping .result) (c .of .result) ≡ r-line k (c .setting-setting .result) = λ i. Resolve (c .stopping .ensures i) (c .of .ensures i) in (
+      read-into (g .K·Sink .step) (posed (c .args .problem .now)) (problem-proper (c .args .problem .now)) (slot-at (c .args .filled .now)) (c .args .trail .now) (ranges (c .args .work .now)) (feed (c .args .tally .now) (g .K·Sink .model (c .args .sink .now))) (c .loop-n .n) (ranges (c .loop-n .region)) (ranges (c .loop-n .work)) (feed (c .loop-n .tally) (g .K·Sink .model (c .loop-n .sink))) (c .loop-n-test .taken) (c .loop-n .inv .0) (c .entry-entry .result) (c .entry-entry .ensures) (ranges (c .undo .last .region)) (c .undo .ensures) k (c .in-Forced .is) (c .setting-setting .result) (c .setting-setting .ensures) (c .if-not-is-inside .ensures tt .answer)
+          (ranges (c .resolve-into .last .work))
+          (λ b e. c .resolve-into .ensures b (ap (λ (rules : List Standing). numbered rules (c .args .filled .now) k) (c .rules .ensures) ∙ e))
+          (feed (c .send .last .self) (g .K·Sink .model (c .send .last .sink)))
+          (c .send .ensures .after ∙ ap (fed (g .K·Sink .step) f) line),
+      c .send .ensures .kept ∙ c .loop-n .inv .1,
+    )
 
 pub loop-n-again : need.loop-n-again
 loop-n-again g c = (read-pass (g .K·Sink .step) (posed (c .args .problem .now)) (problem-proper (c .args .problem .now)) (slot-at (c .args .filled .now)) (c .args .trail .now) (ranges (c .args .work .now)) (feed (c .args .tally .now) (g .K·Sink .model (c .args .sink .now))) (c .loop-n .n) (ranges (c .loop-n .region)) (ranges (c .loop-n .work)) (feed (c .loop-n .tally) (g .K·Sink .model (c .loop-n .sink))) (c .loop-n-test .taken) (c .loop-n .inv .0) (c .entry-entry .result) (c .entry-entry .ensures) (ranges (c .undo .last .region)) (c .undo .ensures) (c .if-not-is-inside .ensures tt .answer), c .loop-n .inv .1)

@@ -9,8 +9,7 @@ use Rattle.search.proofs.solve.run.Needs as need
 
 pub loop-ended-holds : need.loop-ended-holds
 loop-ended-holds g c =
-    let p = c .args .problem .now in
-    (
+    let p = c .args .problem .now in (
       starts (g .K·Sink .step) (posed p) (problem-proper p) (c .args .area .now) (feed (c .args .tally .now) (g .K·Sink .model (c .args .sink .now)))
           (record { trail = c .new .result; region = c .everything .result; filled = 0; next = 0 }) (c .new .ensures) (c .everything .ensures ∙ ap (λ l. everything (last-at l)) (c .lasts .ensures)) refl refl (c .pre),
       refl,
@@ -32,13 +31,14 @@ pub loop-ended-less : need.loop-ended-less
 loop-ended-less g c =
     let p = c .args .problem .now in
     less (g .K·Sink .step) (posed p) (problem-proper p) (c .args .area .now) (feed (c .args .tally .now) (g .K·Sink .model (c .args .sink .now)))
-        (c .loop-ended .course) (c .loop-ended .area) (feed (c .loop-ended .tally) (g .K·Sink .model (c .loop-ended .sink))) (c .loop-ended .inv .0)
-        (c .step-on .last .course) (c .step-on .last .area) (feed (c .step-on .last .tally) (g .K·Sink .model (c .step-on .last .sink))) (c .in-rest .ensures tt .moved)
+    (c .loop-ended .course) (c .loop-ended .area) (feed (c .loop-ended .tally) (g .K·Sink .model (c .loop-ended .sink))) (c .loop-ended .inv .0)
+    (c .step-on .last .course) (c .step-on .last .area) (feed (c .step-on .last .tally) (g .K·Sink .model (c .step-on .last .sink))) (c .in-rest .ensures tt .moved)
 
 pub loop-ended-again : need.loop-ended-again
 loop-ended-again g c =
-    let p = c .args .problem .now in
-    (goes-further (g .K·Sink .step) (posed p) (problem-proper p) (c .args .area .now) (feed (c .args .tally .now) (g .K·Sink .model (c .args .sink .now)))
-        (c .loop-ended .course) (c .loop-ended .area) (feed (c .loop-ended .tally) (g .K·Sink .model (c .loop-ended .sink))) (c .loop-ended .inv .0)
-        (c .step-on .last .course) (c .step-on .last .area) (feed (c .step-on .last .tally) (g .K·Sink .model (c .step-on .last .sink))) (c .in-rest .ensures tt .moved),
-     c .in-rest .ensures tt .kept ∙ c .loop-ended .inv .1)
+    let p = c .args .problem .now in (
+      goes-further (g .K·Sink .step) (posed p) (problem-proper p) (c .args .area .now) (feed (c .args .tally .now) (g .K·Sink .model (c .args .sink .now)))
+          (c .loop-ended .course) (c .loop-ended .area) (feed (c .loop-ended .tally) (g .K·Sink .model (c .loop-ended .sink))) (c .loop-ended .inv .0)
+          (c .step-on .last .course) (c .step-on .last .area) (feed (c .step-on .last .tally) (g .K·Sink .model (c .step-on .last .sink))) (c .in-rest .ensures tt .moved),
+      c .in-rest .ensures tt .kept ∙ c .loop-ended .inv .1,
+    )

@@ -10,7 +10,7 @@ use Rattle.search.proofs.solve.run.Given as given
 abbrev pub Inv-loop-ended : given.InvT-loop-ended
 Inv-loop-ended g l =
     Under-way (g .K·Sink .step) (posed (l .problem)) (problem-proper (l .problem)) (l .entry .area) (feed (l .entry .tally) (g .K·Sink .model (l .entry .sink)))
-      (l .course) (l .area) (feed (l .tally) (g .K·Sink .model (l .sink)))
+    (l .course) (l .area) (feed (l .tally) (g .K·Sink .model (l .sink)))
     × (g .K·Sink .lent (l .sink) ≡ g .K·Sink .lent (l .entry .sink))
 
 -- what is left to do: it falls with every step

@@ -4,7 +4,9 @@ use native.Mathlib.Omega.{arith}
 use borrow.Author.Needs.{needs}
 use Rattle.std.specs.declared.result.Result.the-variants.{Ok, Err}
 use Rattle.std.proofs.shelf.Results.{err-from-errBy}
-use Rattle.blocks.specs.Views.{last-at, sides}
+use Rattle.blocks.specs.Views.{last-at, block-of, sides}
+use Rattle.blocks.proofs.Admitting.{breakers-some}
+use Rattle.blocks.proofs.Breaking.{rule-breakers}
 use Rattle.blocks.proofs.Posting.{admitted-at, room-behind, posted-each, posted-sheet}
 use Rattle.blocks.proofs.ruleset.RuleSet.post.Needs as need
 
@@ -50,5 +52,8 @@ returns c =
     let s = c .args .self .now in
     let new = c .in-Continue-standing .standing in
     let βs = c .args .rule .now .bounds .now in
-    let a = admitted-at (c .problem .ensures .lasts) (c .problem .ensures .rules) βs (Ok new) (c .in-Continue-standing .ensures tt) in
-    (a .0, posted-sheet (s .lasts) (s .rules) (s .count) new βs (room-behind (s .lasts) (s .rules) (s .count) βs (s .sized) (s .few) (a .0)) (a .1 .0))
+    let a = admitted-at (c .problem .ensures .lasts) (c .problem .ensures .rules) βs (Ok new) (c .in-Continue-standing .ensures tt) in (
+      a .0,
+      posted-sheet (s .lasts) (s .rules) (s .count) new βs (room-behind (s .lasts) (s .rules) (s .count) βs (s .sized) (s .few) (a .0)) (a .1 .0),
+      rule-breakers (last-at (s .lasts)) βs (breakers-some (last-at (s .lasts)) βs (block-of new) (a .1 .0)),
+    )

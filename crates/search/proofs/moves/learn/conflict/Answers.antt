@@ -49,7 +49,7 @@ analyse-requires g c κs =
     let is = c .in-Some .ensures tt ∙ ap (λ (f : ℕ → Option Ranges). f (c .args .number)) (read-here _ _ area (course .filled) (c .rules .ensures)) in
     let p = posed (c .args .problem .now) in
     subst (λ (n : ℕ). Ready p (slot-at (take n area)) (course .trail) (ranges (course .region)) (ranges (c .in-Some .work))) (sym z)
-        (ready (g .K·Sink .step) p (problem-proper (c .args .problem .now)) course area (c .pre .0) (c .args .number) (c .pre .1) (ranges (c .in-Some .work)) is)
+    (ready (g .K·Sink .step) p (problem-proper (c .args .problem .now)) course area (c .pre .0) (c .args .number) (c .pre .1) (ranges (c .in-Some .work)) is)
 
 pub keep-requires : need.keep-requires
 keep-requires g c κs =
@@ -67,8 +67,8 @@ keep-requires g c κs =
     let w′ = ranges (c .analyse .last .work) in
     let n = c .in-Before .n in
     learnt-here step p (problem-proper (c .args .problem .now)) course area (c .pre .0) (c .args .number) (c .pre .1) w is f f₂ g′ w′
-        n (taken step p area (course .filled) (course .trail) w f₁ (fed step f (t-line (c .args .number))) (Before n) g′ w′ f₂ sent (c .in-Before .ensures tt .did))
-        (record { trail = c .cut .last .self; region = c .analyse .last .region; filled = course .filled; next = course .next }) (c .cut .ensures .entries) (c .cut .ensures .len) refl refl refl
+    n (taken step p area (course .filled) (course .trail) w f₁ (fed step f (t-line (c .args .number))) (Before n) g′ w′ f₂ sent (c .in-Before .ensures tt .did))
+    (record { trail = c .cut .last .self; region = c .analyse .last .region; filled = course .filled; next = course .next }) (c .cut .ensures .entries) (c .cut .ensures .len) refl refl refl
 
 pub returns-in-Over : need.returns-in-Over
 returns-in-Over g c =

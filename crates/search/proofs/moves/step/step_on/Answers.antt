@@ -39,8 +39,7 @@ join-requires g c κs =
     let k = c .in-Forcing .number in
     let t = c .in-Forcing .bound in
     let h = forces-first S pr course area (c .pre) k t (scanned-here _ _ area (course .filled) (c .rules .ensures) (c .pre .kept .filled) (ranges (course .region)) (Forcing k t) (c .in-Forcing .ensures tt)) in
-    let is : c .bound-told .result ≡ h .bound = c .bound-told .ensures (h .bound) (h .is) in
-    (
+    let is : c .bound-told .result ≡ h .bound = c .bound-told .ensures (h .bound) (h .is) in (
       room-for S pr course area (c .pre) (forced (h .bound) k) _ _ _ (force (h .first) (h .there) (h .forces)),
       subst (λ (β : Bound). (x : Profile) × In (ranges (course .region)) x × Meets x β) (sym is)
           (open-profile (S .last) (ranges (course .region)) (h .bound) (region-here S pr course area (c .pre)) (subst (λ (r : Ranges). Forces (S .last) r (h .block) (h .bound)) (sym (c .pre .kept .left)) (h .forces) .open′)),
@@ -55,8 +54,7 @@ decide-requires g c κs =
     let k = c .in-Some .number in
     let h = opens-first S pr course area (c .pre) k (subst (λ (a : Option ℕ). Scanned (ranges (course .region)) (blocks-of S (length area) (state-of course area)) (100 + course .filled) (Quiet a)) (c .in-Some .is) (scanned-here _ _ area (course .filled) (c .rules .ensures) (c .pre .kept .filled) (ranges (course .region)) (Quiet (c .in-Quiet .alive)) (c .in-Quiet .ensures tt))) in
     let there = ap (λ (f : ℕ → Option Ranges). f k) (read-here _ _ area (course .filled) (c .rules .ensures)) ∙ h .there in
-    let first = first-open-here S pr course area (c .pre) k h in
-    (
+    let first = first-open-here S pr course area (c .pre) k h in (
       room-for S pr course area (c .pre) (decided (first .0)) _ _ _ (decide (h .calm) (h .first) (h .there) (first .1)),
       (h .block, there, h .undecided, (S .last, region-here S pr course area (c .pre), block-here S pr course area (c .pre) k (h .block) (h .there))),
     )

@@ -20,11 +20,12 @@ loop-turn-again c =
     let m = c .args .slots in
     let next = c .args .next in
     let t = turn-inside m next (c .pre .0) (c .loop-turn .turn) (c .slot-at-slot .result) (c .loop-turn-test .taken) (c .slot-at-slot .ensures) in
-    λ i l k. elim (cases-lt (turn m next i) (next + c .loop-turn .turn))
-      [ inl h ↦ c .loop-turn .inv i l h
+    λ i l k. elim (cases-lt (turn m next i) (next + c .loop-turn .turn)) [
+      | inl h ↦ c .loop-turn .inv i l h
       | inr h ↦
           let e : c .slot-at-slot .result ≡ i = turn-same m next (c .pre .0) (c .slot-at-slot .result) i (t .0) l (omega arith) in
-          subst (λ (j : ℕ). Is-reason (trail-of (c .args .self .now)) (100 + j)) e (c .if-not-has-reason .ensures tt) ]
+          subst (λ (j : ℕ). Is-reason (trail-of (c .args .self .now)) (100 + j)) e (c .if-not-has-reason .ensures tt)
+    ]
 
 pub loop-turn-holds : need.loop-turn-holds
 loop-turn-holds c = λ i l h. let t = turn-of (c .args .slots) (c .args .next) (c .pre .0) i l in absurd (omega arith)
