@@ -10,6 +10,7 @@ ghost use Rattle.blocks.specs.Views.{last-at};
 ghost use Rattle.checker.specs.Courts.{court-of};
 ghost use Rattle.checker.specs.Openings.{by-bounds, Possible};
 ghost use Rattle.checker.specs.Steps.{step};
+ghost use Rattle.checker_tests.specs.Firsts.{first-refusal};
 use blocks::lasts::Lasts;
 use blocks::line::Line;
 use blocks::rule::Rule;
@@ -39,6 +40,16 @@ fn heard(judge: &mut Judge, lines: &[Line]) -> Result<(), Refusal>
     Ok(())
 }
 
+// The first refusal of the two, if there is any.
+fn first_of(heard: Result<(), Refusal>, found: Result<(), Refusal>) -> Result<(), Refusal>
+    ensures { λ r. ⌜ r ≡ first-refusal heard found ⌝ }
+{
+    match heard {
+        Ok(()) => found,
+        Err(refusal) => Err(refusal),
+    }
+}
+
 // What comes of rules and lines before a judge with this area: the first refusal, or the finding.
 pub fn judged(
     lasts: &Lasts,
@@ -52,7 +63,5 @@ pub fn judged(
     open(lasts, rules, &mut place)?;
     let mut judge = Judge::new(place.problem(), area);
     let heard = heard(&mut judge, lines);
-    let found = judge.finding();
-    heard?;
-    found
+    first_of(heard, judge.finding())
 }
