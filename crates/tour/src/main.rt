@@ -3,7 +3,8 @@
 // A card at a field station takes drives of two makers, and each maker sets limits. The tour
 // places the limits on the scales of the card's settings, shows limits that are refused, and
 // holds one profile against both makers. Then it admits the makers' rules, shows the block of each
-// and rules that are refused, and names the rules that the profile breaks.
+// and rules that are refused, and names the rules that the profile breaks. Last, a judge hears the
+// grounds for rules that no profile meets, and the same grounds with one line changed.
 use blocks::ruleset::RuleSet;
 use card::Card;
 use error::TourError;
@@ -14,8 +15,11 @@ mod admitting;
 mod breaking;
 mod card;
 mod choice;
+mod demands;
 mod error;
+mod grounds;
 mod holding;
+mod judging;
 mod limit;
 mod makers;
 mod placing;
@@ -34,5 +38,6 @@ fn main(rt: LibcRuntime) -> Result<(), TourError> {
     holding::show(&rt, &card)?;
     let mut rules = RuleSet::new(card.lasts);
     admitting::show(&rt, &card, &mut rules)?;
-    breaking::show(&rt, &card, &rules)
+    breaking::show(&rt, &card, &rules)?;
+    judging::show(&rt, &card)
 }
