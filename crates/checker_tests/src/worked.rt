@@ -12,7 +12,7 @@ use scales::window::Window;
 use scales::window::WindowScale;
 
 // Two settings, x and y, of last 1.
-pub fn two_settings() -> Result<Lasts, Refusal> {
+pub(crate) fn two_settings() -> Result<Lasts, Refusal> {
     let scale = Window::new(Whole, 0, 1)?;
     let mut lasts = Lasts::new();
     lasts.declare(&scale)?;
@@ -28,7 +28,7 @@ const FOUR_RULES: [[Bound; 2]; 4] = [
     [Bound::AtLeast(0, 1), Bound::AtLeast(1, 1)],
 ];
 
-pub fn four_rules() -> [Rule<'static>; 4] {
+pub(crate) fn four_rules() -> [Rule<'static>; 4] {
     [
         Rule {
             bounds: &FOUR_RULES[0],
@@ -45,19 +45,19 @@ pub fn four_rules() -> [Rule<'static>; 4] {
     ]
 }
 
-pub fn t(block: usize) -> Line {
+pub(crate) fn t(block: usize) -> Line {
     Line::Take(BlockNumber::stopping(block))
 }
 
-pub fn r(block: usize, setting: u8) -> Line {
+pub(crate) fn r(block: usize, setting: u8) -> Line {
     Line::Resolve(BlockNumber::stopping(block), SettingNumber::of(setting))
 }
 
-pub fn k(block: usize) -> Line {
+pub(crate) fn k(block: usize) -> Line {
     Line::Keep(BlockNumber::stopping(block))
 }
 
 // The grounds for a "none" on these rules: first for x at 0, then for both.
-pub fn grounds() -> [Line; 7] {
+pub(crate) fn grounds() -> [Line; 7] {
     [t(3), r(2, 1), k(100), t(1), r(0, 1), r(100, 0), Line::End]
 }
