@@ -35,3 +35,27 @@ pub(crate) const SHORT_TIMEOUT: Demand = Demand {
         value: 5,
     }),
 };
+
+pub(crate) const NOT_TOO_COLD: Demand = Demand {
+    maker: "Birch",
+    asked: Asked::Temperature(Limit {
+        side: Side::AtLeast,
+        value: -25.5,
+    }),
+};
+
+pub(crate) const LONG_QUEUE: Demand = Demand {
+    maker: "Alder",
+    asked: Asked::Depth(Limit {
+        side: Side::AtLeast,
+        value: 24,
+    }),
+};
+
+pub(crate) const LOW_GRADE: Demand = Demand {
+    maker: "Alder",
+    asked: Asked::Grade(Limit {
+        side: Side::AtMost,
+        value: b'M',
+    }),
+};
