@@ -2,6 +2,8 @@
 //
 // The answers in the tests are worked out by hand from the definitions. The two functions here read
 // an answer for the tests.
+#![tactic(auto)]
+
 ghost use Rattle.std.specs.Prelude.{◌≡◌, Some, None, Ok, Err, MatchBool};
 ghost use Rattle.scales.specs.Stops.{number};
 ghost use Rattle.blocks.specs.Views.{ranges};

@@ -1,4 +1,6 @@
 // Bounds, rules and blocks of profiles: what the search and the judge share, and all that they share.
+#![tactic(auto)]
+
 pub mod block;
 pub mod bound;
 pub mod examples;

@@ -2,6 +2,8 @@
 //
 // The functions here hand a list of lines to a judge for the tests. That what they accept cannot be
 // met is proved of them, from nothing but the contracts of the judge's calls.
+#![tactic(auto)]
+
 ghost use Rattle.std.specs.Prelude.{◌≡◌, true, is_ok};
 ghost use Rattle.blocks.specs.Sinks.{state_after};
 ghost use Rattle.blocks.specs.Views.{last_at};

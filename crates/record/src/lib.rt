@@ -3,6 +3,8 @@
 //
 // Promised here: a line and its bytes determine each other, a record takes lines while ten bytes
 // are free and leaves all other bytes as they were, and a reading ends at the first line refused.
+#![tactic(auto)]
+
 pub mod bytes;
 pub mod feed;
 pub mod halt;

@@ -2,6 +2,8 @@
 //
 // Each test is a table, worked out by hand. The functions here are what a caller of a record writes:
 // behind a call that knows nothing of records, it still knows every byte of the buffer that it lent.
+#![tactic(auto)]
+
 ghost use Rattle.std.specs.Prelude.{◌≡◌, [], ◌∷◌};
 ghost use Rattle.blocks.specs.Sinks.{state_after};
 ghost use Rattle.record.specs.Pages.{page, writes};

@@ -2,6 +2,8 @@
 //
 // Each test is a table of values with the positions that the definitions give, worked out by hand.
 // The two functions here read a scale for the tests, and are proved for every scale.
+#![tactic(auto)]
+
 ghost use Rattle.std.specs.Prelude.{◌≡◌, Some, None, Ok, Err, MatchBool};
 ghost use Rattle.scales.specs.Stops.{number};
 

@@ -13,3 +13,4 @@ pub mod Examples
 pub mod Listed
 pub mod Orders
 pub mod Floats
+pub mod WindowLaws

@@ -1,7 +1,8 @@
 ghost use Rattle.std.specs.Prelude.{◌≡◌, ℕ, ◌≤◌, min};
 ghost use Rattle.scales.specs.Checks.{Outcome};
-ghost use Rattle.scales.specs.Models.{model_of};
+ghost use Rattle.scales.specs.Models.{ScaleModel, model_of};
 ghost use Rattle.scales.specs.Windows.{cut, end_checks, WindowOf};
+ghost use Rattle.scales.specs.WindowLaws.{window_laws};
 
 use crate::refusal::{Refusal, Stop};
 use crate::scale::Scale;
@@ -64,6 +65,17 @@ impl<S: Scale> Scale for Window<S> {
     ghost standing = { λ w. (cut (model_of S.Scale w.scale) w.first w.end).standing };
 
     ghost top = { λ w. (cut (model_of S.Scale w.scale) w.first w.end).top };
+
+    ghost keeps = { λ w.
+        let m : ScaleModel = record {
+            Value = S.Value;
+            On = S.Scale.on w.scale;
+            Earlier = S.Scale.earlier w.scale;
+            position = S.Scale.position w.scale;
+            standing = S.Scale.standing w.scale;
+            top = S.Scale.top w.scale;
+        } in
+        window_laws m (S.Scale.keeps w.scale) w.first w.end w.ordered };
 
     fn last(&self) -> u32 {
         self.high() - self.low()

@@ -3,6 +3,8 @@
 // relation in specs/Search, one step at a time; `laws` says what holds of every run: there is one and
 // only one, its verdict is right, and with 193 slots one is always free. The method is
 // conflict-driven clause learning over intervals.
+#![tactic(auto)]
+
 pub mod analyse;
 pub mod course;
 pub mod examples;

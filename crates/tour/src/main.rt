@@ -6,6 +6,8 @@
 // and rules that are refused, and names the rules that the profile breaks. A judge hears the grounds
 // for rules that no profile meets, and the same grounds with one line changed. Last, the search finds
 // a profile, and after one rule more finds none and writes its own grounds, which a judge reads.
+#![tactic(auto)]
+
 use blocks::ruleset::RuleSet;
 use card::Card;
 use error::TourError;
