@@ -7,20 +7,20 @@ use Rattle.blocks.specs.Views.{ranges, last_at, block_of, blocks}
 use Rattle.blocks.proofs.Admitting.{breakers_some, bound_refused, always_met, rules_full, admitted}
 use Rattle.blocks.proofs.problem.Problem.admit.Goals as goal
 
-pub returns-in-err-check-bounds : goal.returns-in-err-check-bounds
-returns-in-err-check-bounds c =
-    let p = err_from_is_err_and c.from-residual.result c.from-residual.ensures.1 in
+pub returns-in_err-check_bounds : goal.returns-in_err-check_bounds
+returns-in_err-check_bounds c =
+    let p = err_from_is_err_and c.from_residual.result c.from_residual.ensures.1 in
     let l = c.args.self.now.lasts.now in
     let ss = c.args.self.now.rules.now in
     let βs = c.args.rule.now.bounds.now in
-    rw (p.1, p.2) (bound_refused (sheet_of l ss) βs (omega arith) c.in-err-check-bounds.field-0.0 c.in-err-check-bounds.ensures)
+    rw (p.1, p.2) (bound_refused (sheet_of l ss) βs (omega arith) c.in_err-check_bounds.field-0.0 c.in_err-check_bounds.ensures)
 
-pub returns-in-default : goal.returns-in-default
-returns-in-default c =
+pub returns-in_default : goal.returns-in_default
+returns-in_default c =
     let l = c.args.self.now.lasts.now in
     let ss = c.args.self.now.rules.now in
     let βs = c.args.rule.now.bounds.now in
-    always_met (sheet_of l ss) βs (omega arith) c.in-ok-check-bounds.ensures.0 c.of-in-default.result c.of-in-default.ensures c.in-default.ensures
+    always_met (sheet_of l ss) βs (omega arith) c.in_ok-check_bounds.ensures.0 c.of-in_default.result c.of-in_default.ensures c.in_default.ensures
 
 pub returns-then-self-ge48 : goal.returns-then-self-ge48
 returns-then-self-ge48 c =
@@ -28,7 +28,7 @@ returns-then-self-ge48 c =
     let ss = c.args.self.now.rules.now in
     let βs = c.args.rule.now.bounds.now in
     let b = c.in-Some.ensures in
-    rules_full (sheet_of l ss) βs (omega arith) c.in-ok-check-bounds.ensures.0 (breakers_some (last_at l) βs (ranges c.in-Some.block) b.0) c.of-then-self-ge48.result c.of-then-self-ge48.ensures (omega (arith, length-map ss block_of))
+    rules_full (sheet_of l ss) βs (omega arith) c.in_ok-check_bounds.ensures.0 (breakers_some (last_at l) βs (ranges c.in-Some.block) b.0) c.of-then-self-ge48.result c.of-then-self-ge48.ensures (omega (arith, length-map ss block_of))
 
 pub returns : goal.returns
 returns c =
@@ -36,6 +36,6 @@ returns c =
     let ss = c.args.self.now.rules.now in
     let βs = c.args.rule.now.bounds.now in
     let b = c.in-Some.ensures in (
-      admitted (sheet_of l ss) βs (omega arith) c.in-ok-check-bounds.ensures.0 (breakers_some (last_at l) βs (ranges c.in-Some.block) b.0) (omega (arith, length-map ss block_of)),
+      admitted (sheet_of l ss) βs (omega arith) c.in_ok-check_bounds.ensures.0 (breakers_some (last_at l) βs (ranges c.in-Some.block) b.0) (omega (arith, length-map ss block_of)),
       (b.0, record { within = λ i. (b.0.stands i).1; four = omega (arith, b.1) }),
     )

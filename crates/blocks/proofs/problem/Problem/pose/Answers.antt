@@ -19,7 +19,11 @@ loop-rule-preserved c =
     below_more (λ k. FitToStand l (get_or (blocks rules) k nowhere)) i c.loop-rule.invariant
     (subst (FitToStand l) (block_item rules i s c.loop-rule-test.true c.rule-item.is) c.if-not-holds.ensures)
 
-pub invariant-of-result : goal.invariant-of-result
-invariant-of-result c =
+pub invariant_of-result : goal.invariant_of-result
+invariant_of-result c =
     let each = c.loop-rule.invariant in
-    (omega arith, ((λ i j h. (each i (omega arith)).within j), ((λ i h. (each i (omega arith)).four), tt)))
+    record {
+      few = omega arith;
+      within = λ i j h. (each i (omega arith)).within j;
+      four = λ i h. (each i (omega arith)).four;
+    }
