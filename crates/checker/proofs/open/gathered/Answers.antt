@@ -7,14 +7,14 @@ use Rattle.checker.specs.Openings.{bounds_of, by_bounds}
 use Rattle.checker.proofs.Gathering.{GoingOn, going_first, going_fails, going_more, going_passes, going_same, gathered}
 use Rattle.checker.proofs.open.gathered.Goals as goal
 
-pub returns-in-err-post : goal.returns-in-err-post
-returns-in-err-post c =
-    let p = err_from_is_err_and c.from-residual.result c.from-residual.ensures.1 in
+pub returns-in_err-post : goal.returns-in_err-post
+returns-in_err-post c =
+    let p = err_from_is_err_and c.from_residual.result c.from_residual.ensures.1 in
     let S = sheet_of c.args.lasts.now [] in
     let rs = c.args.rules.now in
     let i = c.loop-rule.rule-index in
     let lt = c.loop-rule-test.true in
-    rw (p.1, p.2) (going_fails S (by_bounds rs) i (sheet_in c.loop-rule.set) c.loop-rule.invariant (omega (arith, length-map rs bounds_of)) _ (get_or-map bounds_of rs i _ [] lt) c.in-err-post.field-0.0 c.in-err-post.ensures.0)
+    rw (p.1, p.2) (going_fails S (by_bounds rs) i (sheet_in c.loop-rule.set) c.loop-rule.invariant (omega (arith, length-map rs bounds_of)) _ (get_or-map bounds_of rs i _ [] lt) c.in_err-post.field-0.0 c.in_err-post.ensures.0)
 
 pub loop-rule-init : goal.loop-rule-init
 loop-rule-init c =
@@ -28,7 +28,7 @@ loop-rule-preserved c =
     let rs = c.args.rules.now in
     let i = c.loop-rule.rule-index in
     let lt = c.loop-rule-test.true in
-    let e = c.in-ok-post.ensures in
+    let e = c.in_ok-post.ensures in
     rw add-one (going_more S (by_bounds rs) i (sheet_in c.loop-rule.set) c.loop-rule.invariant (omega (arith, length-map rs bounds_of)) _ (get_or-map bounds_of rs i _ [] lt) (sheet_in c.post.new.self) e.1 e.0)
 
 pub returns : goal.returns

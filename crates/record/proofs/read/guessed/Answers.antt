@@ -10,4 +10,4 @@ pub returns : goal.returns
 returns c l e =
     let b = reads_block c.args.bytes.now l e in
     let s = reads_setting c.args.bytes.now l e in
-    c.line-of.ensures l (sym (ap (λ bs. get_or bs 0 0) e)) (sym b ∙ cc) (sym s ∙ cc)
+    c.line_of.ensures l (sym (ap (λ bs. get_or bs 0 0) e)) (sym b ∙ cc) (sym s ∙ cc)

@@ -3,4 +3,4 @@ use Rattle.record.proofs.Putting.{put_is}
 use Rattle.record.proofs.sink.put_ten.Goals as goal
 
 pub returns : goal.returns
-returns c = put_is c.args.at _ c.args.buffer.now c.copy-from-slice.new.self c.args.bytes.now c.copy-from-slice.ensures.after (omega arith)
+returns c = put_is c.args.at _ c.args.buffer.now c.copy_from_slice.new.self c.args.bytes.now c.copy_from_slice.ensures.after (omega arith)

@@ -12,7 +12,7 @@ pub returns-in-err-block-2 : goal.returns-in-err-block-2
 returns-in-err-block-2 c =
     let p = err_from_is_err_and c.from-residual-in-err-block-2.result c.from-residual-in-err-block-2.ensures.1 in
     record {
-      outcome = rw (p.1, p.2) (further_refused (court_of c.args.self.now) c.in-Working-Resolve.is-1 c.in-ok-allow.ensures.0.0 (c.in-err-block-2.ensures (ap phase_of c.in-Working-Resolve.is-0)), refl);
+      outcome = rw (p.1, p.2) (further_refused (court_of c.args.self.now) c.in-Working-Resolve.is-1 c.in_ok-allow.ensures.0.0 (c.in-err-block-2.ensures (ap phase_of c.in-Working-Resolve.is-0)), refl);
       lent = refl;
     }
 
@@ -21,7 +21,7 @@ returns-in-ok-slot c =
     let j = c.args.self.now in
     let s = c.in-ok-slot.ensures in
     record {
-      outcome = kept_heard (court_of j) c.in-Working-Keep.number c.in-ok-slot.slot c.in-Working-Keep.is-1 c.in-ok-allow.ensures.0.0 (ap phase_of c.in-Working-Keep.is-0) s.0 s.1.0
+      outcome = kept_heard (court_of j) c.in-Working-Keep.number c.in-ok-slot.slot c.in-Working-Keep.is-1 c.in_ok-allow.ensures.0.0 (ap phase_of c.in-Working-Keep.is-0) s.0 s.1.0
           (c.keep.ensures.after ∙ ap (onward (court_of j) idle) (map-set slot_holds j.area.now c.in-ok-slot.slot (Filled c.in-Working-Keep.work)));
       lent = c.keep.ensures.lent;
     }

@@ -9,4 +9,4 @@ use Rattle.checker.proofs.judge.Judge.is_everything.Goals as goal
 pub returns : goal.returns
 returns c h =
     let e = c.everything.ensures ∙ ap (λ (l : Lasts). everything (last_at l)) c.lasts.ensures in
-    whole_when (court_of c.args.self.now) h e c.is-inside.result c.is-inside.ensures.answer
+    whole_when (court_of c.args.self.now) h e c.is_inside.result c.is_inside.ensures.answer
