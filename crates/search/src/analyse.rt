@@ -61,8 +61,8 @@ pub(crate) fn analyse<K: Sink>(
     sink: &mut K,
 ) -> Fell
     requires { Ready (posed problem.now) (slot_at filled.now) trail.now (ranges region.old) (ranges work.old) }
-    ensures did { Analysed step (posed problem.now) (slot_at filled.now) trail.now (ranges work.old) (feed tally.old (model sink.old)) result (ranges region.new) (ranges work.new) (feed tally.new (model sink.new)) }
-    ensures kept { lent sink.new ≡ lent sink.old }
+    ensures did { Analysed K.step (posed problem.now) (slot_at filled.now) trail.now (ranges work.old) (feed tally.old (K.model sink.old)) result (ranges region.new) (ranges work.new) (feed tally.new (K.model sink.new)) }
+    ensures kept { K.lent sink.new ≡ K.lent sink.old }
 {
     let blocks = Numbered {
         rules: problem.rules(),

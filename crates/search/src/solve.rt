@@ -27,8 +27,8 @@ struct Closed {
 // Goes on from a cold start, step by step, to the end.
 fn run<K: Sink>(problem: &Problem<'_>, area: &mut [Slot], tally: &mut Tally, sink: &mut K) -> Closed
     requires { length area.old ≤ 4096 }
-    ensures ran { Ran step (posed problem.now) area.old area.new (feed tally.old (model sink.old)) (feed tally.new (model sink.new)) (verdict_at (ranges result.region) result.ended) }
-    ensures kept { lent sink.new ≡ lent sink.old }
+    ensures ran { Ran K.step (posed problem.now) area.old area.new (feed tally.old (K.model sink.old)) (feed tally.new (K.model sink.new)) (verdict_at (ranges result.region) result.ended) }
+    ensures kept { K.lent sink.new ≡ K.lent sink.old }
 {
     let mut course = Course {
         trail: Trail::new(),
@@ -53,8 +53,8 @@ pub fn solve<K: Sink>(
     area: &mut [Slot],
     sink: &mut K,
 ) -> Result<Verdict, Refusal>
-    ensures solved { Solved step (posed problem.now) area.old area.new (model sink.old) (model sink.new) result }
-    ensures kept { lent sink.new ≡ lent sink.old }
+    ensures solved { Solved K.step (posed problem.now) area.old area.new (K.model sink.old) (K.model sink.new) result }
+    ensures kept { K.lent sink.new ≡ K.lent sink.old }
 {
     if area.len() < 193 {
         return Err(Refusal::of(Stop::AreaTooSmall));

@@ -14,8 +14,8 @@ pub struct Tally {
 impl Tally {
     // One line more. It is sent unless the sink has refused one before.
     pub fn send<K: Sink>(&mut self, sink: &mut K, line: Line)
-        ensures after { feed self.new (model sink.new) ≡ fed step (feed self.old (model sink.old)) line }
-        ensures kept { lent sink.new ≡ lent sink.old }
+        ensures after { feed self.new (K.model sink.new) ≡ fed K.step (feed self.old (K.model sink.old)) line }
+        ensures kept { K.lent sink.new ≡ K.lent sink.old }
     {
         self.lines = self.lines.saturating_add(1);
         if let None = self.refused {

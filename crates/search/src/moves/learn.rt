@@ -29,8 +29,8 @@ fn keep<K: Sink>(
     sink: &mut K,
 ) -> Option<Ended>
     requires { Learnt (posed problem.now) (ranges work) course.old area.old }
-    ensures did { Keeps step (posed problem.now) (ranges work) course.old area.old (feed tally.old (model sink.old)) result course.new area.new (feed tally.new (model sink.new)) }
-    ensures kept { lent sink.new ≡ lent sink.old }
+    ensures did { Keeps K.step (posed problem.now) (ranges work) course.old area.old (feed tally.old (K.model sink.old)) result course.new area.new (feed tally.new (K.model sink.new)) }
+    ensures kept { K.lent sink.new ≡ K.lent sink.old }
 {
     let Some(slot) = course.trail.free_slot(area.len(), course.next) else {
         return Some(Ended::Full);
@@ -56,8 +56,8 @@ pub(crate) fn conflict<K: Sink>(
     sink: &mut K,
 ) -> Option<Ended>
     requires { Going (posed problem.now) course.old area.old × BreaksFirst (posed problem.now) course.old area.old number }
-    ensures moved { Moved step (posed problem.now) course.old area.old (feed tally.old (model sink.old)) result course.new area.new (feed tally.new (model sink.new)) }
-    ensures kept { lent sink.new ≡ lent sink.old }
+    ensures moved { Moved K.step (posed problem.now) course.old area.old (feed tally.old (K.model sink.old)) result course.new area.new (feed tally.new (K.model sink.new)) }
+    ensures kept { K.lent sink.new ≡ K.lent sink.old }
 {
     let filled = &area[0..course.filled];
     let blocks = Numbered {

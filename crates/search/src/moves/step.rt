@@ -25,8 +25,8 @@ pub(crate) fn step_on<K: Sink>(
     sink: &mut K,
 ) -> Option<Ended>
     requires { Going (posed problem.now) course.old area.old }
-    ensures moved { Moved step (posed problem.now) course.old area.old (feed tally.old (model sink.old)) result course.new area.new (feed tally.new (model sink.new)) }
-    ensures kept { lent sink.new ≡ lent sink.old }
+    ensures moved { Moved K.step (posed problem.now) course.old area.old (feed tally.old (K.model sink.old)) result course.new area.new (feed tally.new (K.model sink.new)) }
+    ensures kept { K.lent sink.new ≡ K.lent sink.old }
 {
     let blocks = Numbered {
         rules: problem.rules(),

@@ -20,29 +20,29 @@ loop-n-init g c =
 pub undo-requires : goal.undo-requires
 undo-requires g c = read_real g.K.Sink.step (posed c.args.problem.now) (problem_proper c.args.problem.now) (slot_at c.args.filled.now) c.args.trail.now (ranges c.args.work.now) (feed c.args.tally.now (g.K.Sink.model c.args.sink.now)) c.loop-n.n (ranges c.loop-n.region) (ranges c.loop-n.work) (feed c.loop-n.tally (g.K.Sink.model c.loop-n.sink)) c.loop-n-test.true c.loop-n.invariant.0 c.entry-entry.result c.entry-entry.ensures
 
-pub returns-in-default : goal.returns-in-default
-returns-in-default g c = record { did = read_stop g.K.Sink.step (posed c.args.problem.now) (problem_proper c.args.problem.now) (slot_at c.args.filled.now) c.args.trail.now (ranges c.args.work.now) (feed c.args.tally.now (g.K.Sink.model c.args.sink.now)) c.loop-n.n (ranges c.loop-n.region) (ranges c.loop-n.work) (feed c.loop-n.tally (g.K.Sink.model c.loop-n.sink)) c.loop-n-test.true c.loop-n.invariant.0 c.entry-entry.result c.entry-entry.ensures (ranges c.undo.new.region) c.undo.ensures c.if-not-is-inside.ensures.answer c.in-default.not-Forced; kept = c.loop-n.invariant.1 }
+pub returns-in_default : goal.returns-in_default
+returns-in_default g c = record { did = read_stop g.K.Sink.step (posed c.args.problem.now) (problem_proper c.args.problem.now) (slot_at c.args.filled.now) c.args.trail.now (ranges c.args.work.now) (feed c.args.tally.now (g.K.Sink.model c.args.sink.now)) c.loop-n.n (ranges c.loop-n.region) (ranges c.loop-n.work) (feed c.loop-n.tally (g.K.Sink.model c.loop-n.sink)) c.loop-n-test.true c.loop-n.invariant.0 c.entry-entry.result c.entry-entry.ensures (ranges c.undo.new.region) c.undo.ensures c.if-not-is_inside.ensures.answer c.in_default.not-Forced; kept = c.loop-n.invariant.1 }
 
-pub resolve-into-requires : goal.resolve-into-requires
-resolve-into-requires g c =
+pub resolve_into-requires : goal.resolve_into-requires
+resolve_into-requires g c =
     let p = read_block g.K.Sink.step (posed c.args.problem.now) (problem_proper c.args.problem.now) (slot_at c.args.filled.now) c.args.trail.now (ranges c.args.work.now) (feed c.args.tally.now (g.K.Sink.model c.args.sink.now)) c.loop-n.n (ranges c.loop-n.region) (ranges c.loop-n.work) (feed c.loop-n.tally (g.K.Sink.model c.loop-n.sink)) c.loop-n-test.true c.loop-n.invariant.0 c.entry-entry.result c.entry-entry.ensures (ranges c.undo.new.region) c.undo.ensures c.in-Forced.block c.in-Forced.is c.setting-setting.result c.setting-setting.ensures in
     (p.0, ap (λ (rules : List Standing). numbered rules c.args.filled.now c.in-Forced.block) c.rules.ensures ∙ p.1, p.2)
 
-pub loop-n-preserved-then-not-is-inside : goal.loop-n-preserved-then-not-is-inside
-loop-n-preserved-then-not-is-inside g c =
+pub loop-n-preserved-then-not-is_inside : goal.loop-n-preserved-then-not-is_inside
+loop-n-preserved-then-not-is_inside g c =
     let k = c.in-Forced.block in
     let f = feed c.loop-n.tally (g.K.Sink.model c.loop-n.sink) in
     let line : Resolve c.stopping.result c.of.result ≡ r_line k c.setting-setting.result = λ i. Resolve (c.stopping.ensures i) (c.of.ensures i) in (
-      read_into g.K.Sink.step (posed c.args.problem.now) (problem_proper c.args.problem.now) (slot_at c.args.filled.now) c.args.trail.now (ranges c.args.work.now) (feed c.args.tally.now (g.K.Sink.model c.args.sink.now)) c.loop-n.n (ranges c.loop-n.region) (ranges c.loop-n.work) (feed c.loop-n.tally (g.K.Sink.model c.loop-n.sink)) c.loop-n-test.true c.loop-n.invariant.0 c.entry-entry.result c.entry-entry.ensures (ranges c.undo.new.region) c.undo.ensures k c.in-Forced.is c.setting-setting.result c.setting-setting.ensures c.if-not-is-inside.ensures.answer
-          (ranges c.resolve-into.new.work)
-          (λ b e. c.resolve-into.ensures b (ap (λ (rules : List Standing). numbered rules c.args.filled.now k) c.rules.ensures ∙ e))
+      read_into g.K.Sink.step (posed c.args.problem.now) (problem_proper c.args.problem.now) (slot_at c.args.filled.now) c.args.trail.now (ranges c.args.work.now) (feed c.args.tally.now (g.K.Sink.model c.args.sink.now)) c.loop-n.n (ranges c.loop-n.region) (ranges c.loop-n.work) (feed c.loop-n.tally (g.K.Sink.model c.loop-n.sink)) c.loop-n-test.true c.loop-n.invariant.0 c.entry-entry.result c.entry-entry.ensures (ranges c.undo.new.region) c.undo.ensures k c.in-Forced.is c.setting-setting.result c.setting-setting.ensures c.if-not-is_inside.ensures.answer
+          (ranges c.resolve_into.new.work)
+          (λ b e. c.resolve_into.ensures b (ap (λ (rules : List Standing). numbered rules c.args.filled.now k) c.rules.ensures ∙ e))
           (feed c.send.new.self (g.K.Sink.model c.send.new.sink))
           (c.send.ensures.after ∙ ap (fed g.K.Sink.step f) line),
       c.send.ensures.kept ∙ c.loop-n.invariant.1,
     )
 
 pub loop-n-preserved : goal.loop-n-preserved
-loop-n-preserved g c = (read_pass g.K.Sink.step (posed c.args.problem.now) (problem_proper c.args.problem.now) (slot_at c.args.filled.now) c.args.trail.now (ranges c.args.work.now) (feed c.args.tally.now (g.K.Sink.model c.args.sink.now)) c.loop-n.n (ranges c.loop-n.region) (ranges c.loop-n.work) (feed c.loop-n.tally (g.K.Sink.model c.loop-n.sink)) c.loop-n-test.true c.loop-n.invariant.0 c.entry-entry.result c.entry-entry.ensures (ranges c.undo.new.region) c.undo.ensures c.if-not-is-inside.ensures.answer, c.loop-n.invariant.1)
+loop-n-preserved g c = (read_pass g.K.Sink.step (posed c.args.problem.now) (problem_proper c.args.problem.now) (slot_at c.args.filled.now) c.args.trail.now (ranges c.args.work.now) (feed c.args.tally.now (g.K.Sink.model c.args.sink.now)) c.loop-n.n (ranges c.loop-n.region) (ranges c.loop-n.work) (feed c.loop-n.tally (g.K.Sink.model c.loop-n.sink)) c.loop-n-test.true c.loop-n.invariant.0 c.entry-entry.result c.entry-entry.ensures (ranges c.undo.new.region) c.undo.ensures c.if-not-is_inside.ensures.answer, c.loop-n.invariant.1)
 
 pub returns : goal.returns
 returns g c = record {

@@ -13,11 +13,11 @@ use Rattle.search.proofs.scan.scan_over.Goals as goal
 pub places-init : goal.places-init
 places-init g c = passed_none (ranges c.args.region.now) (holding g.P.Place.holds c.args.places.now)
 
-pub places-preserved-in-default : goal.places-preserved-in-default
-places-preserved-in-default g c =
+pub places-preserved-in_default : goal.places-preserved-in_default
+places-preserved-in_default g c =
     let holds = g.P.Place.holds in
     let places = c.args.places.now in
-    let empty : holding holds places c.places.i ≡ None = place_at holds places c.places.i c.index-places-i.result c.places-test.true c.index-places-i.is ∙ sym c.in-default.ensures in
+    let empty : holding holds places c.places.i ≡ None = place_at holds places c.places.i c.index-places-i.result c.places-test.true c.index-places-i.is ∙ sym c.in_default.ensures in
     passed_empty (ranges c.args.region.now) (holding holds places) c.places.i c.places.alive empty c.places.invariant
 
 pub places-preserved-in-Dead : goal.places-preserved-in-Dead
@@ -39,7 +39,7 @@ pub loop-setting-preserved : goal.loop-setting-preserved
 loop-setting-preserved g c =
     let region = ranges c.args.region.now in
     let block = ranges c.in-Some.block in
-    (rw add-one (c.see-seen.ensures ∙ ap (see region block c.loop-setting.setting) c.loop-setting.invariant.0), c.in-default-seen.not-Dead)
+    (rw add-one (c.see-seen.ensures ∙ ap (see region block c.loop-setting.setting) c.loop-setting.invariant.0), c.in_default-seen.not-Dead)
 
 -- the status of a block is what its twelve settings show
 pub returns-in-Broken : goal.returns-in-Broken
@@ -75,7 +75,7 @@ places-preserved g c =
     let i = c.places.i in
     let at : holding holds places i ≡ Some block = place_at holds places i c.index-places-i.result c.places-test.true c.index-places-i.is ∙ sym c.in-Some.ensures in
     let twelve : c.loop-setting.setting ≡ 12 = omega arith in
-    let open' = only_open c.loop-setting.seen c.loop-setting.invariant.1 c.in-default-seen-2.not-Broken c.in-default-seen-2.not-Forcing in
+    let open' = only_open c.loop-setting.seen c.loop-setting.invariant.1 c.in_default-seen-2.not-Broken c.in_default-seen-2.not-Forcing in
     let told = subst (Tells region block) (sym (c.loop-setting.invariant.0 ∙ ap (seen_below region block) twelve) ∙ open') (seen_status region block 12 (held_past c.args.region.now c.in-Some.block)) in
     subst (Passed region (holding holds places) (i + 1)) (sym c.or-alive.ensures) (passed_open region (holding holds places) i block at c.places.alive told c.places.invariant)
 

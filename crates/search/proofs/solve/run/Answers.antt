@@ -20,10 +20,10 @@ returns-in-Some g c =
     let p = c.args.problem.now in
     let f₀ = feed c.args.tally.now (g.K.Sink.model c.args.sink.now) in
     let f = feed c.loop-ended.tally (g.K.Sink.model c.loop-ended.sink) in
-    let f' = feed c.step-on.new.tally (g.K.Sink.model c.step-on.new.sink) in
+    let f' = feed c.step_on.new.tally (g.K.Sink.model c.step_on.new.sink) in
     record {
       ran = comes_to g.K.Sink.step (posed p) (problem_proper p) c.args.area.now f₀ c.loop-ended.course c.loop-ended.area f c.loop-ended.invariant.0
-          c.in-Some.ended c.step-on.new.course c.step-on.new.area f' c.in-Some.ensures.moved;
+          c.in-Some.ended c.step_on.new.course c.step_on.new.area f' c.in-Some.ensures.moved;
       kept = c.in-Some.ensures.kept ∙ c.loop-ended.invariant.1;
     }
 
@@ -32,13 +32,13 @@ loop-ended-smaller g c =
     let p = c.args.problem.now in
     less g.K.Sink.step (posed p) (problem_proper p) c.args.area.now (feed c.args.tally.now (g.K.Sink.model c.args.sink.now))
     c.loop-ended.course c.loop-ended.area (feed c.loop-ended.tally (g.K.Sink.model c.loop-ended.sink)) c.loop-ended.invariant.0
-    c.step-on.new.course c.step-on.new.area (feed c.step-on.new.tally (g.K.Sink.model c.step-on.new.sink)) c.in-default.ensures.moved
+    c.step_on.new.course c.step_on.new.area (feed c.step_on.new.tally (g.K.Sink.model c.step_on.new.sink)) c.in_default.ensures.moved
 
 pub loop-ended-preserved : goal.loop-ended-preserved
 loop-ended-preserved g c =
     let p = c.args.problem.now in (
       goes_further g.K.Sink.step (posed p) (problem_proper p) c.args.area.now (feed c.args.tally.now (g.K.Sink.model c.args.sink.now))
           c.loop-ended.course c.loop-ended.area (feed c.loop-ended.tally (g.K.Sink.model c.loop-ended.sink)) c.loop-ended.invariant.0
-          c.step-on.new.course c.step-on.new.area (feed c.step-on.new.tally (g.K.Sink.model c.step-on.new.sink)) c.in-default.ensures.moved,
-      c.in-default.ensures.kept ∙ c.loop-ended.invariant.1,
+          c.step_on.new.course c.step_on.new.area (feed c.step_on.new.tally (g.K.Sink.model c.step_on.new.sink)) c.in_default.ensures.moved,
+      c.in_default.ensures.kept ∙ c.loop-ended.invariant.1,
     )

@@ -32,7 +32,7 @@ taken step S area n t w f₁ f r g' w' f₂ e a = let z : n - 0 ≡ n = omega ar
 
 pub unreachable-requires : goal.unreachable-requires
 unreachable-requires g c =
-    none_some (c.in-default.ensures ∙ ap (λ (f : ℕ → Option Ranges). f c.args.number) (read_here _ _ c.args.area.now c.args.course.now.filled c.rules.ensures) ∙ c.requires.1.1.1)
+    none_some (c.in_default.ensures ∙ ap (λ (f : ℕ → Option Ranges). f c.args.number) (read_here _ _ c.args.area.now c.args.course.now.filled c.rules.ensures) ∙ c.requires.1.1.1)
 
 pub analyse-requires : goal.analyse-requires
 analyse-requires g c =

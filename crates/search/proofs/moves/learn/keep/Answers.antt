@@ -16,7 +16,7 @@ use Rattle.search.proofs.moves.learn.keep.Goals as goal
 pub unreachable-requires : goal.unreachable-requires
 unreachable-requires g c =
     let p = c.requires in
-    forces_told (posed c.args.problem.now).last (ranges c.args.course.now.region) (ranges c.args.work) p.forces.0 p.stands.1 p.stands.0 p.forces.1 c.status.result c.status.ensures c.in-default-status.not-Forcing
+    forces_told (posed c.args.problem.now).last (ranges c.args.course.now.region) (ranges c.args.work) p.forces.0 p.stands.1 p.stands.0 p.forces.1 c.status.result c.status.ensures c.in_default-status.not-Forcing
 
 pub join-requires : goal.join-requires
 join-requires g c =
@@ -24,7 +24,7 @@ join-requires g c =
     let last = (posed c.args.problem.now).last in
     let region = ranges c.args.course.now.region in
     let forced = c.in-Forcing.ensures last p.stands.1 p.stands.0 in
-    let is : c.bound-told.result ≡ forced.0 = c.bound-told.ensures forced.0 forced.1 in
+    let is : c.bound_told.result ≡ forced.0 = c.bound_told.ensures forced.0 forced.1 in
     (p.short, subst (λ (β : Bound). (x : Profile) × In region x × Meets x β) (sym is) (open_profile last region forced.0 p.stands.1 forced.2.open'))
 
 pub returns : goal.returns
@@ -34,7 +34,7 @@ returns g c =
     let course = c.args.course.now in
     let last = (posed c.args.problem.now).last in
     let forced = c.in-Forcing.ensures last p.stands.1 p.stands.0 in
-    let is : c.bound-told.result ≡ forced.0 = c.bound-told.ensures forced.0 forced.1 in
+    let is : c.bound_told.result ≡ forced.0 = c.bound_told.ensures forced.0 forced.1 in
     let f = feed c.args.tally.now (g.K.Sink.model c.args.sink.now) in
     let at : ℕ → Course = λ n. record { trail = course.trail; region = course.region; filled = n; next = slot + 1 } in
     let joined = subst₂ (λ (n : ℕ) (β : Bound). Joined (at n) β (Forced (100 + slot)) c.join.new.self) c.max-course.ensures is c.join.ensures in

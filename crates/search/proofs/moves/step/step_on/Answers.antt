@@ -35,7 +35,7 @@ join-requires g c =
     let k = c.in-Forcing.number in
     let t = c.in-Forcing.bound in
     let h = forces_first S pr course area c.requires k t (scanned_here _ _ area course.filled c.rules.ensures c.requires.kept.filled (ranges course.region) (Forcing k t) c.in-Forcing.ensures) in
-    let is : c.bound-told.result ≡ h.bound = c.bound-told.ensures h.bound h.is in (
+    let is : c.bound_told.result ≡ h.bound = c.bound_told.ensures h.bound h.is in (
       room_for S pr course area c.requires (forced h.bound k) _ _ _ (force h.first h.there h.forces),
       subst (λ (β : Bound). (x : Profile) × In (ranges course.region) x × Meets x β) (sym is)
           (open_profile S.last (ranges course.region) h.bound (region_here S pr course area c.requires) (subst (λ (r : Ranges). Forces S.last r h.block h.bound) (sym c.requires.kept.left) h.forces).open'),
@@ -64,22 +64,22 @@ returns-in-Forcing g c =
     let k = c.in-Forcing.number in
     let t = c.in-Forcing.bound in
     let h = forces_first S pr course area c.requires k t (scanned_here _ _ area course.filled c.rules.ensures c.requires.kept.filled (ranges course.region) (Forcing k t) c.in-Forcing.ensures) in
-    let is : c.bound-told.result ≡ h.bound = c.bound-told.ensures h.bound h.is in
+    let is : c.bound_told.result ≡ h.bound = c.bound_told.ensures h.bound h.is in
     record {
       moved = goes_on S pr course area c.requires g.K.Sink.step (feed c.args.tally.now (g.K.Sink.model c.args.sink.now)) c.join.new.self h.bound (Forced k)
           (subst (λ (β : Bound). Joined course β (Forced k) c.join.new.self) is c.join.ensures) (force h.first h.there h.forces);
       kept = refl;
     }
 
-pub returns-in-default : goal.returns-in-default
-returns-in-default g c =
+pub returns-in_default : goal.returns-in_default
+returns-in_default g c =
     let course = c.args.course.now in
     let area = c.args.area.now in
     let S = posed c.args.problem.now in
     let pr = problem_proper c.args.problem.now in
     record {
       moved = stops_found S pr course area c.requires g.K.Sink.step (feed c.args.tally.now (g.K.Sink.model c.args.sink.now))
-          (subst (λ (a : Option ℕ). Scanned (ranges course.region) (blocks_of S (length area) (state_of course area)) (100 + course.filled) (Quiet a)) c.in-default.is (scanned_here _ _ area course.filled c.rules.ensures c.requires.kept.filled (ranges course.region) (Quiet c.in-Quiet.alive) c.in-Quiet.ensures));
+          (subst (λ (a : Option ℕ). Scanned (ranges course.region) (blocks_of S (length area) (state_of course area)) (100 + course.filled) (Quiet a)) c.in_default.is (scanned_here _ _ area course.filled c.rules.ensures c.requires.kept.filled (ranges course.region) (Quiet c.in-Quiet.alive) c.in-Quiet.ensures));
       kept = refl;
     }
 

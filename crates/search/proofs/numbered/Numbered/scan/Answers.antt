@@ -11,12 +11,12 @@ returns-in-Broken c = scanned_broken (ranges c.args.region.now) c.args.self.now.
 pub returns-in-Forcing : goal.returns-in-Forcing
 returns-in-Forcing c = scanned_forcing (ranges c.args.region.now) c.args.self.now.rules.now c.args.self.now.filled.now c.requires.0 c.in-Quiet.alive c.in-Quiet.ensures c.in-Forcing.j c.in-Forcing.bound c.in-Forcing.ensures
 
-pub block-of-slot-requires : goal.block-of-slot-requires
-block-of-slot-requires c = alive_below (ranges c.args.region.now) (slot_at c.args.self.now.filled.now) (length c.args.self.now.filled.now) c.in-Quiet-scan-over.slot c.requires.1 c.in-Quiet-scan-over.ensures.1
+pub block_of_slot-requires : goal.block_of_slot-requires
+block_of_slot-requires c = alive_below (ranges c.args.region.now) (slot_at c.args.self.now.filled.now) (length c.args.self.now.filled.now) c.in-Quiet-scan_over.slot c.requires.1 c.in-Quiet-scan_over.ensures.1
 
-pub returns-in-Quiet-scan-over : goal.returns-in-Quiet-scan-over
-returns-in-Quiet-scan-over c =
-    scanned_quiet (ranges c.args.region.now) c.args.self.now.rules.now c.args.self.now.filled.now c.requires.0 c.in-Quiet.alive c.in-Quiet.ensures c.in-Quiet-scan-over.slot c.in-Quiet-scan-over.ensures c.or.result (c.or.ensures ∙ ap (option_or c.in-Quiet.alive) c.block-of-slot.ensures)
+pub returns-in-Quiet-scan_over : goal.returns-in-Quiet-scan_over
+returns-in-Quiet-scan_over c =
+    scanned_quiet (ranges c.args.region.now) c.args.self.now.rules.now c.args.self.now.filled.now c.requires.0 c.in-Quiet.alive c.in-Quiet.ensures c.in-Quiet-scan_over.slot c.in-Quiet-scan_over.ensures c.or.result (c.or.ensures ∙ ap (option_or c.in-Quiet.alive) c.block_of_slot.ensures)
 
-pub returns-in-default : goal.returns-in-default
-returns-in-default c = scanned_rules (ranges c.args.region.now) c.args.self.now.rules.now c.args.self.now.filled.now c.requires.0 c.scan-over.result c.in-default.not-Quiet c.scan-over.ensures
+pub returns-in_default : goal.returns-in_default
+returns-in_default c = scanned_rules (ranges c.args.region.now) c.args.self.now.rules.now c.args.self.now.filled.now c.requires.0 c.scan_over.result c.in_default.not-Quiet c.scan_over.ensures
