@@ -10,7 +10,7 @@ returns c ok possible =
     let m = length c.args.area.now in
     let lines = c.args.lines.now in
     let d = court_of c.heard-heard.new.judge in
-    let oks = both_ok c.heard-heard.result c.finding.result (ap is_ok (sym c.first-of.ensures) ∙ ok) in
+    let oks = both_ok c.heard-heard.result c.finding.result (ap is_ok (sym c.first_of.ensures) ∙ ok) in
     let end = accepts_ended d.phase d.line c.finding.result c.finding.ensures.answer oks.1 in
     let way = since_opening {d = d} m lines (same_sheet place c.problem.result c.problem.ensures) c.new-judge.ensures.opened (c.heard-heard.ensures oks.0) in
-    c.in-ok-open.ensures.1.never_accepts possible m lines (ends_too {d = d} way end)
+    c.in_ok-open.ensures.1.never_accepts possible m lines (ends_too {d = d} way end)
