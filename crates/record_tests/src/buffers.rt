@@ -36,5 +36,5 @@ fn a_full_record_refuses_at_the_line_to_come(rt: HostRuntime) {
     assert_eq!(rt; record.full(), Some(Refusal::at_line(Stop::RecordFull, 2)));
     assert_eq!(rt; record.take(Line::End), Err(25));
     assert_eq!(rt; record.len(), 10);
-    assert_eq!(rt; record.written(), b"e    0  0\n");
+    assert_eq!(rt; record.written(), b"e    0  0\n".as_slice());
 }

@@ -2,7 +2,7 @@ use scales::refusal::Refusal;
 use std::io;
 
 // Why the tour cannot go on.
-#[derive(Drop)]
+#[derive(Debug, Drop)]
 pub(crate) enum TourError {
     Output(io::Error),
     Refused(Refusal),
