@@ -61,14 +61,24 @@ fn show_search(
 ) -> Result<(), TourError> {
     let mut record = Record::new(buffer);
     let verdict = search_rules(rules, area, &mut record)?;
-    match verdict.answer {
+    show_verdict(rt, card, rules, &verdict, record.written())
+}
+
+fn show_verdict(
+    rt: &impl Print,
+    card: &Card,
+    rules: &RuleSet,
+    verdict: &Verdict,
+    written: &[u8],
+) -> Result<(), TourError> {
+    match &verdict.answer {
         Answer::Found(region) => {
             println!(rt; "\nThe search finds a profile that meets every rule:")?;
-            show_profile(rt, card, &region)
+            show_profile(rt, card, region)
         }
         Answer::Nothing => {
-            show_grounds(rt, verdict.lines, record.written())?;
-            show_reading(rt, rules, record.written())?;
+            show_grounds(rt, verdict.lines, written)?;
+            show_reading(rt, rules, written)?;
             Ok(())
         }
     }
