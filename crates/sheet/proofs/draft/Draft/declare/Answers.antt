@@ -3,11 +3,11 @@ use Rattle.std.proofs.lemmas.Result.{err_from_is_err_and}
 use Rattle.sheet.proofs.Declaring.{settings_counted, one_more}
 use Rattle.sheet.proofs.draft.Draft.declare.Goals as goal
 
-pub returns-in-err-setting : goal.returns-in-err-setting
-returns-in-err-setting g c =
-    let p = err_from_is_err_and c.from-residual.result c.from-residual.ensures.1 in
+pub returns-in_err-setting : goal.returns-in_err-setting
+returns-in_err-setting g c =
+    let p = err_from_is_err_and c.from_residual.result c.from_residual.ensures.1 in
     let d = c.args.self.now in
-    let was = c.in-err-setting.ensures in
+    let was = c.in_err-setting.ensures in
     rw (p.1, p.2) (
       omega (arith, settings_counted d.lasts, d.lasts.few, was.0),
       was.1,
@@ -18,8 +18,8 @@ returns-in-err-setting g c =
 pub returns : goal.returns
 returns g c =
     let d = c.args.self.now in
-    let n = c.in-ok-setting.setting in
-    let was = c.in-ok-setting.ensures in (
+    let n = c.in_ok-setting.setting in
+    let was = c.in_ok-setting.ensures in (
       omega (arith, was.0, was.1),
       was.1 ∙ sym (settings_counted d.lasts),
       one_more d.lasts.last c.declare.new.self.last c.declare.new.self.count d.lasts.count n (g.S.Scale.top c.args.scale.now) (omega (arith, d.lasts.sized, was.0)) was.2 was.1 was.3,
