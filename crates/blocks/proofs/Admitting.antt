@@ -1,5 +1,5 @@
 -- A rule's bounds, one by one: the checks, and the profiles that break them all.
-use Rattle.std.proofs.Common.{◌≡◌, ℕ, zero, suc, ◌+◌, ◌<◌, ◌≤◌, ◌≢◌, ◌⊎◌, ◌↔◌, List, [], ◌∷◌, ◌++◌, length, get_or, drop, sym, refl, ap, ◌∙◌, subst, inl, inr, ⊎_elim, arith, drop-cons, below_more}
+use Rattle.std.proofs.Common.{◌≡◌, ℕ, zero, suc, ◌+◌, ◌<◌, ◌≤◌, ◌↔◌, List, [], ◌∷◌, length, get_or, drop, sym, subst, inl, inr, arith, drop-cons, below_more}
 use Rattle.std.proofs.lemmas.List.{drop_all}
 use Rattle.scales.specs.declared.refusal.Refusal.{Refusal}
 use Rattle.scales.specs.declared.refusal.Stop.TheVariants.{AlwaysMet, RulesFull}
@@ -7,7 +7,7 @@ use Rattle.scales.specs.Stops.{no_place}
 use Rattle.scales.specs.Checks.{Check, check, Passes, Refuses}
 use Rattle.scales.proofs.Checking.{both_pass, first_refuses, second_refuses}
 use Rattle.blocks.specs.declared.bound.Bound.{Bound}
-use Rattle.blocks.specs.declared.bound.Bound.TheVariants.{AtMost, AtLeast}
+use Rattle.blocks.specs.declared.bound.Bound.TheVariants.{AtMost}
 use Rattle.blocks.specs.Bounds.{Profile, Meets}
 use Rattle.blocks.specs.Sheets.{Sheet}
 use Rattle.blocks.specs.Ranges.{Ranges, Stands, everything, In, narrow}

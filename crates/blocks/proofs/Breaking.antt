@@ -1,9 +1,9 @@
 -- The block of a rule holds just the profiles that break it, and is the only one that does.
-use Rattle.std.proofs.Common.{◌≡◌, ℕ, zero, suc, ◌<◌, ◌≤◌, ◌⊎◌, ◌↔◌, List, [], ◌∷◌, sym, refl, ap, ◌∙◌, subst, inl, inr, ⊎_elim, arith}
+use Rattle.std.proofs.Common.{◌≡◌, ℕ, zero, suc, ◌≤◌, ◌↔◌, List, [], ◌∷◌, inl, inr, ⊎_elim, arith}
 use Rattle.blocks.specs.declared.bound.Bound.{Bound}
 use Rattle.blocks.specs.declared.bound.Bound.TheVariants.{AtMost, AtLeast}
 use Rattle.blocks.specs.Bounds.{Profile, Meets}
-use Rattle.blocks.specs.Ranges.{Ranges, Stands, everything, In, AllIn, narrow}
+use Rattle.blocks.specs.Ranges.{Ranges, everything, In, AllIn}
 use Rattle.blocks.specs.Rules.{MeetsRule, Breakable, Breakers, against, rule_block}
 use Rattle.blocks.proofs.Ranging.{narrow_in, narrow_inside, inside_means, same_block}
 

@@ -1,9 +1,9 @@
 -- The first open bound of a block, setting by setting.
-use Rattle.std.proofs.Common.{◌≡◌, ℕ, suc, ◌+◌, ◌-◌, ◌<◌, ◌≤◌, ◌⊎◌, Some, None, sym, refl, subst, inl, inr, arith}
+use Rattle.std.proofs.Common.{ℕ, ◌+◌, ◌-◌, ◌<◌, ◌≤◌, Some, None, subst, inl, inr, arith}
 use Rattle.std.proofs.lemmas.Bool.{cases_lt, cases_eq}
 use Rattle.blocks.specs.declared.bound.Bound.{Bound}
 use Rattle.blocks.specs.declared.bound.Bound.TheVariants.{AtMost, AtLeast}
-use Rattle.blocks.specs.Bounds.{setting, rank, told}
+use Rattle.blocks.specs.Bounds.{rank}
 use Rattle.blocks.specs.Ranges.{Ranges, Stands}
 use Rattle.blocks.specs.Status.{BoundOf, Open, FirstOpen, TellsFirst, LowOpen, HighOpen, TellsOpenAt}
 use Rattle.blocks.proofs.Ranging.{open_at}

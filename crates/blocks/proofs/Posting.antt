@@ -9,7 +9,7 @@ use Rattle.blocks.specs.declared.lasts.Lasts.{Lasts}
 use Rattle.blocks.specs.declared.standing.Standing.{Standing}
 use Rattle.blocks.specs.Ranges.{Ranges}
 use Rattle.blocks.specs.Sheets.{Sheet}
-use Rattle.blocks.specs.Rules.{Breakers, bound_checks, admit_checks, rule_block, with_rule}
+use Rattle.blocks.specs.Rules.{Breakers, bound_checks, admit_checks, with_rule}
 use Rattle.blocks.specs.Views.{last_at, block_of, blocks, nowhere, high_of, sides_of, FitToStand}
 use Rattle.blocks.specs.Problems.{sheet_of, FitToPose, Admits}
 use Rattle.blocks.proofs.Breaking.{breakers_only}

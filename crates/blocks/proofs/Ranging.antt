@@ -1,11 +1,11 @@
 -- Ranges, setting by setting.
-use Rattle.std.proofs.Common.{◌≡◌, ℕ, zero, suc, pred, ◌<◌, ◌≤◌, min, max, true, false, cond, eqb, ◌≢◌, ◌⊎◌, ◌↔◌, sym, refl, ap, ◌∙◌, subst, inl, inr, arith}
+use Rattle.std.proofs.Common.{◌≡◌, ℕ, zero, suc, pred, ◌<◌, ◌≤◌, min, max, ◌≢◌, ◌⊎◌, ◌↔◌, sym, refl, ap, subst, inl, inr, arith}
 use Rattle.std.proofs.lemmas.Bool.{cases_eq, cases_lt, eq-eqb, ne_eqb}
 use Rattle.blocks.specs.declared.bound.Bound.{Bound}
 use Rattle.blocks.specs.declared.bound.Bound.TheVariants.{AtMost, AtLeast}
 use Rattle.blocks.specs.Bounds.{Profile, setting, Meets}
-use Rattle.blocks.specs.Ranges.{Ranges, Stands, everything, In, AllIn, Inside, end, with_end, narrow, resolve, Overlap, Resolvable}
-use Rattle.blocks.specs.Status.{BoundOf, True, False, Open, Dead, Broken, Forcing, Forces}
+use Rattle.blocks.specs.Ranges.{Ranges, Stands, In, AllIn, Inside, end, with_end, narrow, resolve, Resolvable}
+use Rattle.blocks.specs.Status.{BoundOf, True, False, Open, Dead, Broken, Forces}
 
 -- at one setting, and at every other
 pub by_setting : (P : ℕ → Type 0) (s : ℕ) → P s → ((i : ℕ) → i ≢ s → P i) → (i : ℕ) → P i

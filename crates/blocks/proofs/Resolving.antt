@@ -1,9 +1,9 @@
 -- Whether two blocks may be resolved, setting by setting.
-use Rattle.std.proofs.Common.{◌≡◌, ℕ, suc, ◌+◌, ◌<◌, ◌≤◌, max, cond, eqb, ◌≢◌, List, length, get_or, sym, subst, inl, inr, arith}
+use Rattle.std.proofs.Common.{◌≡◌, ℕ, ◌+◌, ◌<◌, ◌≤◌, max, cond, eqb, List, length, get_or, sym, subst, inl, inr, arith}
 use Rattle.std.proofs.lemmas.List.{get_or_past}
-use Rattle.std.proofs.lemmas.Bool.{cases_eq, cases_lt, eq-eqb, ne_eqb}
+use Rattle.std.proofs.lemmas.Bool.{cases_eq, eq-eqb, ne_eqb}
 use Rattle.blocks.specs.declared.block.Block.{Block}
-use Rattle.blocks.specs.Ranges.{Ranges, resolve, Overlap, Resolvable}
+use Rattle.blocks.specs.Ranges.{Ranges, resolve, Resolvable}
 use Rattle.blocks.specs.Views.{ranges}
 use Rattle.blocks.proofs.Arrays.{each_of}
 use Rattle.blocks.proofs.Ranging.{resolve_at, resolve_stands}

@@ -1,11 +1,11 @@
 -- Blocks of the program, by their ranges.
-use Rattle.std.proofs.Common.{◌≡◌, ℕ, ◌<◌, ◌≤◌, ◌↔◌, List, length, get_or, Some, None, Option, sym, refl, ap, ◌∙◌, subst, arith}
+use Rattle.std.proofs.Common.{◌≡◌, ℕ, ◌<◌, ◌≤◌, ◌↔◌, List, length, get_or, Some, None, Option, sym, ap, ◌∙◌, subst, arith}
 use Rattle.std.proofs.lemmas.List.{get_or_past, get_or-map}
 use Rattle.blocks.specs.declared.block.Block.{Block}
 use Rattle.blocks.specs.declared.bound.Bound.{Bound}
 use Rattle.blocks.specs.declared.standing.Standing.{Standing}
-use Rattle.blocks.specs.Bounds.{Profile, Meets}
-use Rattle.blocks.specs.Ranges.{Ranges, In, end, with_end, narrow, Back}
+use Rattle.blocks.specs.Bounds.{Meets}
+use Rattle.blocks.specs.Ranges.{Ranges, In, with_end, narrow, Back}
 use Rattle.blocks.specs.Views.{ranges, block_of, blocks, nowhere, Real, BlockOf, Narrowed}
 use Rattle.blocks.proofs.Ranging.{narrow_inside, narrow_in, undo_narrow}
 

@@ -1,5 +1,5 @@
 -- Worked rules and blocks, over the definitions that the calls' contracts cite.
-use Rattle.std.specs.Prelude.{◌≡◌, ℕ, zero, suc, ◌↔◌, List, [], ◌∷◌, slice_index}
+use Rattle.std.specs.Prelude.{◌≡◌, ℕ, ◌↔◌, [], ◌∷◌, slice_index}
 use Rattle.scales.specs.declared.refusal.Stop.TheVariants.{AlwaysMet, NotResolvable}
 use Rattle.scales.specs.Stops.{no_place}
 use Rattle.scales.specs.Checks.{Passes, Refuses}

@@ -1,5 +1,5 @@
 -- The lines of the grounds: their letters, and the numbers in their columns.
-use Rattle.std.specs.Prelude.{ℕ, ◌≤◌, min}
+use Rattle.std.specs.Prelude.{ℕ, min}
 use Rattle.std.proofs.Common.{arith}
 use Rattle.blocks.specs.declared.line.Line.{Line}
 use Rattle.blocks.specs.declared.line.Line.TheVariants.{Take, Resolve, Keep, End}

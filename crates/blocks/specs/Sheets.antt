@@ -1,5 +1,5 @@
 -- A sheet, as search and judge see it: settings by their last positions, and blocks by their numbers.
-use Rattle.std.specs.Prelude.{◌≡◌, ℕ, ◌-◌, ◌<◌, ◌≤◌, cond, List, length, Some, Option, nat_lt}
+use Rattle.std.specs.Prelude.{◌≡◌, ℕ, ◌-◌, ◌≤◌, cond, List, length, Some, Option, nat_lt}
 use Rattle.std.specs.List.{slice_get}
 use Rattle.blocks.specs.Bounds.{Profile}
 use Rattle.blocks.specs.Ranges.{Ranges, Stands, In}

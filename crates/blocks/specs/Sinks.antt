@@ -1,5 +1,5 @@
 -- Sinks: what comes of a line that a sink is sent.
-use Rattle.std.specs.Prelude.{◌≡◌, ℕ, List, [], ◌∷◌, Ok, Err, Result}
+use Rattle.std.specs.Prelude.{ℕ, List, [], ◌∷◌, Ok, Err, Result}
 use Rattle.blocks.specs.declared.line.Line.{Line}
 
 -- a line is taken, with the next state, or refused by a number

@@ -1,5 +1,5 @@
 -- What is asked of a line, by the work block and the block that it names.
-use Rattle.std.proofs.Common.{◌≡◌, ℕ, ◌+◌, ◌<◌, Bool, true, false, ◌⊎◌, List, [], ◌∷◌, set, Some, Ok, Err, MatchBool, Result, sym, refl, ap, ◌∙◌, subst, inl, inr}
+use Rattle.std.proofs.Common.{◌≡◌, ℕ, ◌+◌, ◌<◌, Bool, true, false, [], ◌∷◌, set, Some, Ok, Err, MatchBool, Result, sym, ap, ◌∙◌, subst, inl, inr}
 use Rattle.scales.specs.declared.refusal.Refusal.{Refusal}
 use Rattle.scales.specs.declared.refusal.Stop.TheVariants.{NotResolvable}
 use Rattle.scales.specs.Checks.{Passes, Refuses, Outcome}
@@ -7,10 +7,10 @@ use Rattle.blocks.specs.declared.block.Block.{Block}
 use Rattle.blocks.specs.declared.line.numbers.BlockNumber.{BlockNumber}
 use Rattle.blocks.specs.declared.line.numbers.SettingNumber.{SettingNumber}
 use Rattle.blocks.specs.declared.line.Line.{Line}
-use Rattle.blocks.specs.declared.line.Line.TheVariants.{Take, Resolve, Keep, End}
+use Rattle.blocks.specs.declared.line.Line.TheVariants.{Resolve, Keep, End}
 use Rattle.blocks.specs.Ranges.{Ranges, everything, Inside, resolve, Resolvable}
 use Rattle.blocks.specs.Views.{ranges}
-use Rattle.checker.specs.Courts.{Phase, idle, working, Court, block_in, asks}
+use Rattle.checker.specs.Courts.{idle, working, Court, block_in, asks}
 use Rattle.checker.specs.Hearing.{Allowed, Whole, further_checks, line_checks, onward, Leads, Hears}
 
 -- there is one work block

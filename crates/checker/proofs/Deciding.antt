@@ -1,6 +1,6 @@
 -- The tests of a step decide what is asked of a line, at blocks that are real.
-use Rattle.std.proofs.Common.{◌≡◌, ℕ, ◌+◌, ◌<◌, ◌≤◌, Bool, true, cond, ◌&&◌, eqb, leb, ◌⊎◌, Decides, refl, inl, inr, arith}
-use Rattle.std.proofs.lemmas.Bool.{cases_lt, leb-true, le-leb}
+use Rattle.std.proofs.Common.{◌≡◌, ℕ, ◌≤◌, Bool, ◌&&◌, leb, Decides, refl, arith}
+use Rattle.std.proofs.lemmas.Bool.{leb-true, le-leb}
 use Rattle.std.proofs.lemmas.Bool.Decides.{Decides-below_and, Decides-and, Decides-like}
 use Rattle.blocks.specs.Ranges.{Ranges, everything, Inside, Resolvable}
 use Rattle.blocks.specs.Views.{Real}

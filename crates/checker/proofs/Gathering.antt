@@ -1,5 +1,5 @@
 -- Rules, one after the other: their checks, the sheet that they make, and the profiles that meet them all.
-use Rattle.std.proofs.Common.{◌≡◌, ℕ, zero, suc, ◌<◌, ◌≤◌, ◌⊎◌, List, [], ◌∷◌, ◌++◌, length, get_or, drop, Some, sym, refl, ap, ◌∙◌, subst, inl, inr, arith, drop-cons}
+use Rattle.std.proofs.Common.{◌≡◌, ℕ, zero, suc, ◌<◌, ◌≤◌, ◌⊎◌, List, [], ◌∷◌, ◌++◌, length, get_or, drop, Some, sym, refl, ap, ◌∙◌, subst, inl, inr, drop-cons}
 use Rattle.std.specs.List.{slice_get}
 use Rattle.std.proofs.lemmas.List.{drop_all}
 use Rattle.scales.specs.declared.refusal.Refusal.{Refusal}
@@ -10,7 +10,7 @@ use Rattle.blocks.specs.declared.lasts.Lasts.{Lasts}
 use Rattle.blocks.specs.declared.ruleset.RuleSet.{RuleSet}
 use Rattle.blocks.specs.Bounds.{Profile}
 use Rattle.blocks.specs.Ranges.{Ranges, everything, In}
-use Rattle.blocks.specs.Rules.{MeetsRule, rule_block, admit_checks, with_rule, with_rules, rules_checks}
+use Rattle.blocks.specs.Rules.{rule_block, admit_checks, with_rule, with_rules, rules_checks}
 use Rattle.blocks.specs.Problems.{sheet_of}
 use Rattle.blocks.specs.RuleSets.{sheet_in}
 use Rattle.blocks.specs.Sheets.{Sheet, Breaks}

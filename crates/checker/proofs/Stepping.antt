@@ -1,12 +1,12 @@
 -- Each line's outcome is the one of its checks and its effect, and no other.
-use Rattle.std.proofs.Common.{◌≡◌, ℕ, ◌+◌, ◌-◌, ◌<◌, ◌≤◌, Bool, true, false, ◌&&◌, ltb, leb, ◌⊎◌, List, [], ◌∷◌, length, set, Some, None, Ok, Err, Decides, Option, Result, sym, refl, ap, ◌∙◌, subst, inl, inr, arith}
+use Rattle.std.proofs.Common.{◌≡◌, ℕ, ◌+◌, ◌-◌, ◌≤◌, Bool, true, false, ◌&&◌, ltb, leb, length, set, Some, None, Ok, Err, Decides, Option, Result, sym, refl, ap, ◌∙◌, subst, inl, inr, arith}
 use Rattle.std.proofs.lemmas.Bool.{both_ways, leb-true, le-leb}
 use Rattle.std.proofs.lemmas.Bool.Decides.{Decides-and, Decides-ltb, not_from_Decides}
 use Rattle.scales.specs.declared.refusal.Refusal.{Refusal}
 use Rattle.scales.specs.declared.refusal.Stop.{Stop}
 use Rattle.scales.specs.declared.refusal.Stop.TheVariants.{NotAllowed, UnknownBlock, Undeclared, NotResolvable, NotEverything}
 use Rattle.scales.specs.Stops.{number, line_place}
-use Rattle.scales.specs.Checks.{Passes, Refuses}
+use Rattle.scales.specs.Checks.{Refuses}
 use Rattle.scales.proofs.Checking.{not_both, one_refusal}
 use Rattle.blocks.specs.declared.line.Line.{Line}
 use Rattle.blocks.specs.declared.line.Line.TheVariants.{Take, Resolve, Keep, End}
@@ -17,7 +17,7 @@ use Rattle.blocks.specs.Sinks.{Step, taken, refused, result_of, next_of}
 use Rattle.blocks.specs.Views.{Real}
 use Rattle.checker.specs.Table.{allows, letter_of}
 use Rattle.checker.specs.Courts.{Phase, idle, working, ended, Court, block_in, stage}
-use Rattle.checker.specs.Hearing.{Allowed, Known, Joins, Whole, line_checks, further_checks, onward, Leads, Hears, Takes, JustTakes}
+use Rattle.checker.specs.Hearing.{Allowed, Known, Joins, line_checks, onward, Leads, Takes, JustTakes}
 use Rattle.checker.specs.Steps.{resolvable, whole, where_true, where_known, step_in, step}
 use Rattle.checker.proofs.Asking.{same_work, same_some}
 use Rattle.checker.proofs.Deciding.{resolvable_decides, whole_decides}

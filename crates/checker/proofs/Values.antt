@@ -1,5 +1,5 @@
 -- The state of a judge is real, since its blocks are.
-use Rattle.std.proofs.Common.{◌≡◌, ℕ, zero, suc, ◌-◌, ◌≤◌, Bool, true, false, cond, ltb, ◌⊎◌, List, [], ◌∷◌, map, replicate, Some, None, Option, refl, ap, subst, inl, inr, arith}
+use Rattle.std.proofs.Common.{◌≡◌, ℕ, zero, suc, ◌-◌, ◌≤◌, Bool, true, false, cond, ltb, List, [], ◌∷◌, replicate, Some, None, Option, refl, ap, subst, arith}
 use Rattle.std.specs.List.{slice_get}
 use Rattle.std.proofs.lemmas.List.{get_or_past}
 use Rattle.blocks.specs.declared.lasts.Lasts.{Lasts}
@@ -7,13 +7,13 @@ use Rattle.blocks.specs.declared.slot.Slot.{Slot}
 use Rattle.blocks.specs.declared.slot.Slot.TheVariants.{Empty, Filled}
 use Rattle.blocks.specs.declared.standing.Standing.{Standing}
 use Rattle.blocks.specs.Ranges.{Ranges}
-use Rattle.blocks.specs.Slots.{slot_holds, holdings, joined, slot_at}
-use Rattle.blocks.specs.Views.{block_of, blocks, last_at, Real}
+use Rattle.blocks.specs.Slots.{slot_holds, holdings, slot_at}
+use Rattle.blocks.specs.Views.{blocks, last_at, Real}
 use Rattle.blocks.proofs.Viewing.{real}
 use Rattle.checker.specs.declared.judge.Judge.{Judge}
 use Rattle.checker.specs.declared.state.State.{State}
 use Rattle.checker.specs.declared.state.State.TheVariants.{Idle, Working, Ended}
-use Rattle.checker.specs.Courts.{Phase, idle, working, ended, phase_of, court_of}
+use Rattle.checker.specs.Courts.{working, phase_of, court_of}
 use Rattle.checker.proofs.Asking.{same_work, same_some}
 use Rattle.checker.proofs.Stepping.{RealCourt, none_some}
 

@@ -1,5 +1,5 @@
 -- What a judge's values mean: its state.
-use Rattle.std.specs.Prelude.{◌≡◌, ℕ, List, [], ◌∷◌, replicate, Some, None, Option}
+use Rattle.std.specs.Prelude.{◌≡◌, ℕ, List, [], ◌∷◌, replicate, None, Option}
 use Rattle.std.specs.List.{slice_get}
 use Rattle.scales.specs.declared.refusal.Stop.{Stop}
 use Rattle.scales.specs.declared.refusal.Stop.TheVariants.{EndMissing}

@@ -1,5 +1,5 @@
 -- The judge as a sink: what it makes of a line, by tests. That each line meets what is asked of it, and does what it should, is said of it as a law.
-use Rattle.std.specs.Prelude.{◌≡◌, ℕ, zero, suc, ◌+◌, ◌-◌, Bool, true, cond, ◌&&◌, length, Some, None, Option, ◌==◌, nat_le, nat_lt, slice_set}
+use Rattle.std.specs.Prelude.{ℕ, zero, suc, ◌+◌, ◌-◌, Bool, true, cond, ◌&&◌, length, Some, None, Option, ◌==◌, nat_le, nat_lt, slice_set}
 use Rattle.scales.specs.declared.refusal.Stop.{Stop}
 use Rattle.scales.specs.declared.refusal.Stop.TheVariants.{NotAllowed, UnknownBlock, Undeclared, NotResolvable, NotEverything}
 use Rattle.scales.specs.Stops.{number}

@@ -7,7 +7,6 @@ use Rattle.blocks.specs.declared.lasts.Lasts.{Lasts}
 use Rattle.blocks.specs.declared.line.Line.{Line}
 use Rattle.blocks.specs.declared.problem.Problem.{Problem}
 use Rattle.blocks.specs.declared.ruleset.RuleSet.{RuleSet}
-use Rattle.blocks.specs.declared.standing.Standing.{Standing}
 use Rattle.blocks.specs.Problems.{posed, sheet_of}
 use Rattle.blocks.specs.RuleSets.{sheet_in, PosesSet}
 use Rattle.blocks.specs.Sheets.{Sheet}

@@ -1,9 +1,9 @@
 -- A record that is read line by line.
-use Rattle.std.proofs.Common.{◌≡◌, ℕ, ◌+◌, ◌*◌, ◌<◌, ◌≤◌, min, List, [], ◌∷◌, ◌++◌, length, take, Ok, Err, Result, sym, refl, ap, ◌∙◌, subst, add-one, arith}
+use Rattle.std.proofs.Common.{◌≡◌, ℕ, ◌+◌, ◌*◌, ◌<◌, ◌≤◌, min, List, [], ◌∷◌, ◌++◌, length, take, Ok, Err, sym, refl, ap, ◌∙◌, subst, arith}
 use Rattle.std.specs.List.{flat_map}
-use Rattle.std.proofs.lemmas.List.{append_assoc, append-nil, length-append, length_push, take_at, flat_map_more, nil_from_length}
+use Rattle.std.proofs.lemmas.List.{append_assoc, length-append, length_push, take_at, flat_map_more, nil_from_length}
 use Rattle.blocks.specs.declared.line.Line.{Line}
-use Rattle.blocks.specs.Sinks.{Step, taken, refused, next_of, state_after}
+use Rattle.blocks.specs.Sinks.{Step, taken, next_of, state_after}
 use Rattle.record.specs.declared.halt.Cause.{Cause}
 use Rattle.record.specs.declared.halt.Cause.TheVariants.{Shape, Sink}
 use Rattle.record.specs.declared.halt.Halt.{Halt}

@@ -1,12 +1,12 @@
 -- A record that fills, line by line.
-use Rattle.std.proofs.Common.{◌≡◌, ℕ, ◌+◌, ◌*◌, ◌<◌, ◌≤◌, true, false, leb, List, [], ◌∷◌, ◌++◌, length, take, drop, sym, refl, ap, ◌∙◌, subst, inl, inr, add-zero, add_assoc, arith}
+use Rattle.std.proofs.Common.{◌≡◌, ℕ, ◌+◌, ◌*◌, ◌<◌, ◌≤◌, leb, List, [], ◌∷◌, ◌++◌, length, take, drop, sym, ap, ◌∙◌, subst, inl, inr, add-zero, arith}
 use Rattle.std.specs.List.{flat_map}
 use Rattle.std.proofs.lemmas.List.{append_assoc, length-append, length-take-le, length-drop, take-append-drop, take_at, drop_at, drop-drop}
 use Rattle.std.proofs.lemmas.Bool.{cases_lt, le-leb, lt-leb, cond-true, cond-false}
 use Rattle.blocks.specs.declared.line.Line.{Line}
-use Rattle.blocks.specs.Sinks.{Step, taken, refused, next_of, state_after}
+use Rattle.blocks.specs.Sinks.{taken, refused, next_of, state_after}
 use Rattle.record.specs.LineBytes.{line_bytes}
-use Rattle.record.specs.Pages.{Page, page, has_room, put, writes, next_line}
+use Rattle.record.specs.Pages.{Page, page, put, writes}
 use Rattle.record.specs.Readings.{TakesAll}
 use Rattle.record.specs.Laws.{RecordStands}
 use Rattle.record.proofs.Lettered.{line_length}

@@ -6,7 +6,6 @@ use Rattle.blocks.specs.declared.line.numbers.BlockNumber.{BlockNumber}
 use Rattle.blocks.specs.declared.line.numbers.SettingNumber.{SettingNumber}
 use Rattle.blocks.specs.Lines.{letter, block_column, setting_column}
 use Rattle.blocks.proofs.Numbered.{same_block_number, same_setting_number}
-use Rattle.record.specs.Columns.{column}
 use Rattle.record.specs.Digits.{last_digit, front_byte, worth}
 use Rattle.record.specs.LineBytes.{line_bytes}
 use Rattle.record.proofs.Justified.{five_columns, three_columns, last_worth, front_worth}

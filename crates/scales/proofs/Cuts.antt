@@ -1,8 +1,7 @@
 -- A window has just the values between its ends, counted from the first.
-use Rattle.std.proofs.Common.{◌≡◌, ℕ, ◌+◌, ◌-◌, ◌<◌, ◌≤◌, min, ◌⊎◌, sym, refl, ap, ◌∙◌, subst, inl, inr, arith}
-use Rattle.scales.specs.Laws.{ScaleLaws}
+use Rattle.std.proofs.Common.{◌≡◌, ℕ, ◌≤◌, ◌⊎◌, ap, inl, inr, arith}
 use Rattle.scales.specs.Models.{ScaleModel, Keeps}
-use Rattle.scales.specs.Windows.{low, cut, NotAfter, GoodEnds, WindowOf}
+use Rattle.scales.specs.Windows.{NotAfter, GoodEnds, WindowOf}
 
 module _ (m : ScaleModel) (k : Keeps m) where
   -- the order is that of the positions

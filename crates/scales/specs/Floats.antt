@@ -1,12 +1,12 @@
 -- The order of the 32-bit floats by their bits.
 use Rattle.std.specs.Prelude.{◌≡◌, ℕ, zero, suc, ◌+◌, ◌-◌, ◌*◌, ◌/◌, ◌%◌, ◌^◌, ◌<◌, ◌≤◌, Bool, true, false, cond, not, T, ltb, leb, ◌⊎◌, pos, ◌==◌, is_nan, nat_le, nat_lt, to_bits, refl, Float}
-use Rattle.std.proofs.Common.{sym, ap, subst, ◌∙◌, inl, inr, true≢false, mul_assoc, mul_comm, mul_right_comm, mul-lt-mul_of_pos_right, mul-le-mul_right, mul-le-mul_left, lt_of_mul-lt-mul_right, mul-pos, mul-one, le_trans, lt_of_lt_of_le, lt_of_le_of_lt, le_of_eq, pow-suc, zero-mul, eq-or-lt_of_le, arith, lt→ltb, ltb→lt, leb→le, le→leb, T_not, eqb→eq, pow_pos, pow_mono}
+use Rattle.std.proofs.Common.{sym, ap, subst, ◌∙◌, inl, inr, true≢false, mul_assoc, mul_comm, mul_right_comm, mul-lt-mul_of_pos_right, mul-le-mul_right, mul-le-mul_left, lt_of_mul-lt-mul_right, mul-pos, pow-suc, zero-mul, eq-or-lt_of_le, arith, lt→ltb, ltb→lt, leb→le, le→leb, T_not, eqb→eq, pow_pos, pow_mono}
 use Rattle.std.proofs.Math.Dec.{not_T}
-use Rattle.std.specs.Float.{nan, inf, fin, Format, binary32}
+use Rattle.std.specs.Float.{nan, inf, fin, binary32}
 use Rattle.std.specs.Float.Ieee.{fits, lt, below, of_bits, of_fields, nan_bits, odd, up, down}
 use Rattle.std.specs.Float.Ieee.Bits.{of_bits-to_bits, to_bits-lt, to_bits-of_bits, nan_bits_is, nan_bits_above, of_bits-fits, is_true, is_false, cond_no}
 use Rattle.std.specs.Float.Ieee.Exact.{HasValue, odd_sign}
-use Rattle.std.specs.Float.Ieee.Fits.{up_pos, down_pos}
+use Rattle.std.specs.Float.Ieee.Fits.{down_pos}
 use Rattle.scales.specs.Laws.{ScaleLaws}
 use Rattle.scales.specs.Orders.{laws_by_places}
 use Rattle.scales.specs.Readings.{OnReading, EarlierReading, place_bits, bits_at, place_reading, value_reading}

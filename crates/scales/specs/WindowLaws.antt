@@ -1,7 +1,6 @@
 -- A window of a scale keeps the laws that the scale keeps.
 use Rattle.std.specs.Prelude.{◌≡◌, ℕ, ◌+◌, ◌-◌, ◌≤◌, min}
 use Rattle.std.proofs.Common.{ap, ◌∙◌, arith}
-use Rattle.scales.specs.Laws.{ScaleLaws}
 use Rattle.scales.specs.Models.{ScaleModel, Keeps}
 use Rattle.scales.specs.Windows.{low, cut}
 

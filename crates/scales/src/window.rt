@@ -68,12 +68,12 @@ impl<S: Scale> Scale for Window<S> {
 
     ghost keeps = { λ w.
         let m : ScaleModel = record {
-            Value = S.Value;
-            On = S.Scale.on w.scale;
-            Earlier = S.Scale.earlier w.scale;
-            position = S.Scale.position w.scale;
-            standing = S.Scale.standing w.scale;
-            top = S.Scale.top w.scale;
+          Value = S.Value;
+          On = S.Scale.on w.scale;
+          Earlier = S.Scale.earlier w.scale;
+          position = S.Scale.position w.scale;
+          standing = S.Scale.standing w.scale;
+          top = S.Scale.top w.scale;
         } in
         window_laws m (S.Scale.keeps w.scale) w.first w.end w.ordered };
 

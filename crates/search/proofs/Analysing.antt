@@ -1,10 +1,10 @@
 -- An analysis of the program, entry by entry.
-use Rattle.std.proofs.Common.{◌≡◌, ℕ, zero, suc, ◌-◌, ◌<◌, ◌≤◌, ◌≢◌, ◌⊎◌, List, [], ◌∷◌, ◌++◌, length, get_or, Some, None, Option, sym, refl, ap, ◌∙◌, subst, subst₂, inl, inr, append_assoc, append-nil, arith}
+use Rattle.std.proofs.Common.{◌≡◌, ℕ, zero, suc, ◌-◌, ◌<◌, ◌≤◌, List, [], ◌∷◌, ◌++◌, get_or, Some, Option, sym, refl, ap, ◌∙◌, subst, subst₂, append_assoc, append-nil, arith}
 use Rattle.blocks.specs.declared.bound.Bound.{Bound}
 use Rattle.blocks.specs.declared.line.Line.{Line}
 use Rattle.blocks.specs.Lines.{r_line, e_line}
 use Rattle.blocks.specs.Bounds.{setting}
-use Rattle.blocks.specs.Ranges.{Ranges, Stands, Inside, end, with_end, narrow, resolve, Resolvable}
+use Rattle.blocks.specs.Ranges.{Ranges, Stands, Inside, with_end, narrow, resolve, Resolvable}
 use Rattle.blocks.specs.Sheets.{Sheet, Proper, block_at}
 use Rattle.blocks.specs.Sinks.{Step}
 use Rattle.blocks.specs.Views.{Real}
@@ -15,13 +15,13 @@ use Rattle.search.specs.declared.trail.Reason.{Reason}
 use Rattle.search.specs.declared.trail.Reason.TheVariants.{Decided, Forced}
 use Rattle.search.specs.declared.trail.Trail.{Trail}
 use Rattle.search.specs.declared.trail.TrailEntry.{TrailEntry}
-use Rattle.search.specs.Search.{Entry, decided, forced, bound_of, region, Outcome, learnt, over, Analysis, out, pass, into, stop}
+use Rattle.search.specs.Search.{Entry, forced, region, Outcome, learnt, over, Analysis, out, pass, into, stop}
 use Rattle.search.specs.Tallies.{Feed, fed, fed_all}
 use Rattle.search.specs.Trails.{reasoned, entry_of, no_entry, trail_below, trail_of, KeepsEnds}
 use Rattle.search.specs.Analyses.{Ready, Analysed}
 use Rattle.search.proofs.Feeding.{fed_more}
 use Rattle.search.proofs.Trailing.{reasoned_bound}
-use Rattle.search.proofs.Sound.{Sound, Good, sound_open, region_stands, steps_good, good_start, resolved}
+use Rattle.search.proofs.Sound.{Sound, sound_open, region_stands, steps_good, good_start, resolved}
 
 -- the entries from the n-th backward, and what is left of the analysis
 module _ {M : Type 0} (step : M → Line → Step M) (S : Sheet) (pr : Proper S) (slots : ℕ → Option Ranges) (t : Trail) (w₀ : Ranges) (f₀ : Feed M) where

@@ -1,5 +1,5 @@
 -- A conflict of the program: from a broken block to the end of its analysis.
-use Rattle.std.proofs.Common.{◌≡◌, ℕ, suc, ◌+◌, ◌<◌, ◌≤◌, eqb, ◌⊎◌, List, [], ◌∷◌, ◌++◌, length, take, Some, None, Option, sym, refl, ap, ◌∙◌, subst, subst₂, inl, inr, arith}
+use Rattle.std.proofs.Common.{◌≡◌, ℕ, suc, ◌+◌, ◌<◌, ◌≤◌, eqb, List, [], ◌∷◌, ◌++◌, length, take, Some, None, Option, sym, refl, ap, ◌∙◌, subst, subst₂, inl, inr, arith}
 use Rattle.std.specs.Map.{update}
 use Rattle.std.proofs.lemmas.Bool.{cases_lt}
 use Rattle.blocks.specs.declared.line.Line.{Line}
@@ -17,14 +17,13 @@ use Rattle.search.specs.declared.analyse.Fell.{Fell}
 use Rattle.search.specs.declared.analyse.Fell.TheVariants.{Over, Before}
 use Rattle.search.specs.declared.course.Course.{Course}
 use Rattle.search.specs.declared.moves.Ended.{Ended}
-use Rattle.search.specs.declared.moves.Ended.TheVariants.{Nothing, Full}
-use Rattle.search.specs.declared.trail.Trail.{Trail}
-use Rattle.search.specs.Search.{First, Entry, decided, forced, region, IsReason, FreeSlot, State, learnt, over, Hit, blocks_of, region_of, Conflict, Step, learn, Ends, run_out, full}
+use Rattle.search.specs.declared.moves.Ended.TheVariants.{Nothing}
+use Rattle.search.specs.Search.{Entry, decided, forced, region, IsReason, FreeSlot, State, learnt, blocks_of, Conflict, Step, learn, run_out, full}
 use Rattle.search.specs.Tallies.{Feed, fed, fed_all}
 use Rattle.search.specs.Trails.{trail_below, trail_of, KeepsEnds}
 use Rattle.search.specs.Courses.{state_of}
 use Rattle.search.specs.Analyses.{Ready, Analysed, outcome_of}
-use Rattle.search.specs.Moves.{Kept, Going, Goes, Stops, Moved, BreaksFirst, Learnt, Keeps, KeepsIn, KeepsNone}
+use Rattle.search.specs.Moves.{Going, Goes, Stops, Moved, BreaksFirst, Learnt, Keeps, KeepsIn, KeepsNone}
 use Rattle.search.proofs.Feeding.{fed_more}
 use Rattle.search.proofs.Sound.{Sound, Good, Came, region_stands, steps_good, good_start, conflict_sound}
 use Rattle.search.proofs.Keeping.{slot_take_past}

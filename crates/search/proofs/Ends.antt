@@ -1,22 +1,21 @@
 -- A search ends: the trail, read as a number to the base 3, rises with every step; and its bounds are different bounds of the rules.
-use Rattle.std.proofs.Common.{◌≡◌, ℕ, zero, suc, ◌+◌, ◌-◌, ◌*◌, ◌^◌, ◌<◌, ◌≤◌, min, max, eqb, ◌≢◌, ◌⊎◌, List, [], ◌∷◌, ◌++◌, map, length, Some, None, Option, sym, refl, ap, ◌∙◌, subst, inl, inr, ⊎_elim, append_assoc, append-nil, mul_assoc, mul-lt-mul_of_pos_right, pow-suc, arith, length-append, pow-add}
+use Rattle.std.proofs.Common.{◌≡◌, ℕ, zero, suc, ◌+◌, ◌-◌, ◌*◌, ◌^◌, ◌<◌, ◌≤◌, min, max, ◌≢◌, ◌⊎◌, List, [], ◌∷◌, ◌++◌, map, length, Some, Option, sym, refl, ap, ◌∙◌, subst, inl, inr, ⊎_elim, append_assoc, append-nil, mul-lt-mul_of_pos_right, pow-suc, arith, length-append, pow-add}
 use lib.ListN.{length-map}
-use Rattle.std.specs.Map.{update}
 use Rattle.std.specs.List.{slice_get}
-use Rattle.std.proofs.lemmas.Bool.{cases_eq, cases_lt, cases_order}
+use Rattle.std.proofs.lemmas.Bool.{cases_lt}
 use Rattle.blocks.specs.declared.bound.Bound.{Bound}
 use Rattle.blocks.specs.declared.bound.Bound.TheVariants.{AtMost, AtLeast}
-use Rattle.blocks.specs.Bounds.{Profile, setting, rank}
-use Rattle.blocks.specs.Ranges.{Ranges, Stands, everything, In, Inside, narrow, resolve, Resolvable}
-use Rattle.blocks.specs.Status.{BoundOf, True, False, Open, Dead, Broken, Forcing, Forces, FirstOpen}
+use Rattle.blocks.specs.Bounds.{setting}
+use Rattle.blocks.specs.Ranges.{Ranges, resolve}
+use Rattle.blocks.specs.Status.{BoundOf}
 use Rattle.blocks.specs.Sheets.{Sheet, Proper, block_at}
 use Rattle.blocks.specs.declared.line.Line.{Line}
-use Rattle.search.specs.Search.{Entry, decided, forced, bound_of, region, IsReason, State, cold, Outcome, learnt, over, Analysis, out, pass, into, stop, FreeSlot, Verdict, found, none, no_slot, blocks_of, region_of, Conflict, Step, force, decide, learn, Ends, all_dead, run_out, full, Steps, here, on, Run}
+use Rattle.search.specs.Search.{Entry, decided, forced, bound_of, region, IsReason, State, cold, learnt, Analysis, pass, into, stop, Verdict, no_slot, blocks_of, Step, force, decide, learn, Ends, all_dead, run_out, full, Steps, here, on, Run}
 use Rattle.search.specs.Laws.{Mem, Distinct}
-use Rattle.blocks.proofs.Ranging.{OpenAt, TrueAt, Covers, narrow_true, narrow_inside, true_inside, resolve_at}
-use Rattle.search.proofs.Sound.{Sound, Good, sound_open, region_stands, steps_good, good_start}
+use Rattle.blocks.proofs.Ranging.{OpenAt, TrueAt, narrow_true, narrow_inside, true_inside, resolve_at}
+use Rattle.search.proofs.Sound.{Sound, sound_open, steps_good, good_start}
 use Rattle.blocks.proofs.Numbers.{block_at_start as start_blocks}
-use Rattle.blocks.proofs.Numbers.{some_same, put_all}
+use Rattle.blocks.proofs.Numbers.{put_all}
 
 abbrev pub digit : Entry → ℕ
 digit (decided β) = 1

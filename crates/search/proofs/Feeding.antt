@@ -1,9 +1,8 @@
 -- What a sink is sent, line by line.
-use Rattle.std.proofs.Common.{◌≡◌, ℕ, suc, ◌+◌, ◌≤◌, min, List, [], ◌∷◌, ◌++◌, length, Some, None, Option, sym, refl, ap, ◌∙◌, subst, append_assoc, append-nil, arith, length-append}
+use Rattle.std.proofs.Common.{◌≡◌, ℕ, suc, ◌+◌, List, [], ◌∷◌, ◌++◌, length, Some, None, Option, sym, refl, ap, ◌∙◌, subst, append_assoc, append-nil, arith, length-append}
 use Rattle.blocks.specs.declared.line.Line.{Line}
 use Rattle.blocks.specs.Sinks.{Step, taken, refused}
-use Rattle.search.specs.declared.tally.Tally.{Tally}
-use Rattle.search.specs.Sends.{counted, Takes, takes_none, takes_more, Sends, all_taken, refused_at}
+use Rattle.search.specs.Sends.{counted, takes_none, takes_more, Sends, all_taken, refused_at}
 use Rattle.search.specs.Tallies.{first_refusal, sink_after, Feed, feed, fed, fed_all}
 
 module _ {M : Type 0} (step : M → Line → Step M) where

@@ -1,19 +1,19 @@
 -- A bound joins the trail.
-use Rattle.std.proofs.Common.{◌≡◌, ℕ, zero, suc, ◌+◌, ◌<◌, ◌≤◌, ◌≢◌, ◌⊎◌, ◌↔◌, List, [], ◌∷◌, length, get_or, set, Some, None, Option, sym, refl, ap, ◌∙◌, subst, subst₂, inl, inr, ⊎_elim, arith, below_more}
+use Rattle.std.proofs.Common.{◌≡◌, ℕ, zero, suc, ◌+◌, ◌<◌, ◌≤◌, ◌≢◌, ◌⊎◌, List, ◌∷◌, length, get_or, set, None, sym, refl, ap, ◌∙◌, subst, subst₂, inl, inr, ⊎_elim, arith, below_more}
 use Rattle.std.proofs.lemmas.List.{get_or-set_same, get_or-set_other}
 use Rattle.blocks.specs.declared.bound.Bound.{Bound}
 use Rattle.blocks.specs.declared.bound.Bound.TheVariants.{AtMost, AtLeast}
 use Rattle.blocks.specs.declared.status.Status.{Status}
 use Rattle.blocks.specs.declared.status.Status.TheVariants.{Dead as dead, Broken as broken, Forcing as forcing, Open as undecided}
-use Rattle.blocks.specs.Bounds.{Profile, Meets, told}
+use Rattle.blocks.specs.Bounds.{Profile, Meets}
 use Rattle.blocks.specs.Ranges.{Ranges, Stands, In, end, narrow}
-use Rattle.blocks.specs.Status.{BoundOf, True, False, Open, Dead, Broken, Forces, Forcing, FirstOpen, Tells, TellsFirst}
+use Rattle.blocks.specs.Status.{True, False, Open, Dead, Forces, Tells, TellsFirst}
 use Rattle.blocks.specs.Views.{ranges}
 use Rattle.blocks.proofs.Ranging.{true_at, false_at, open_at}
 use Rattle.search.specs.declared.course.Course.{Course}
 use Rattle.search.specs.declared.trail.Reason.{Reason}
 use Rattle.search.specs.declared.trail.TrailEntry.{TrailEntry}
-use Rattle.search.specs.Search.{Entry, decided, forced, bound_of, region}
+use Rattle.search.specs.Search.{region}
 use Rattle.search.specs.Trails.{reasoned, entry_of, no_entry, trail_below, trail_of, KeepsEnds}
 use Rattle.search.specs.Courses.{Joined}
 use Rattle.search.proofs.Least.{cases_lt}

@@ -1,5 +1,5 @@
 -- A work block is kept in a slot.
-use Rattle.std.proofs.Common.{◌≡◌, ℕ, zero, suc, ◌+◌, ◌<◌, ◌≤◌, max, eqb, ◌≢◌, ◌⊎◌, List, [], ◌∷◌, length, take, set, Some, None, Option, sym, refl, ap, ◌∙◌, subst, inl, inr, arith, length-set}
+use Rattle.std.proofs.Common.{◌≡◌, ℕ, zero, suc, ◌+◌, ◌<◌, ◌≤◌, max, eqb, ◌≢◌, List, [], ◌∷◌, length, take, set, Some, None, sym, refl, ap, ◌∙◌, subst, inl, inr, arith, length-set}
 use Rattle.std.specs.List.{slice_get}
 use Rattle.std.specs.Map.{update}
 use Rattle.std.proofs.lemmas.Map.{update_here, update_apart}
@@ -11,7 +11,6 @@ use Rattle.blocks.specs.declared.line.Line.{Line}
 use Rattle.blocks.specs.declared.slot.Slot.{Slot}
 use Rattle.blocks.specs.declared.slot.Slot.TheVariants.{Filled}
 use Rattle.blocks.specs.Lines.{k_line}
-use Rattle.blocks.specs.Ranges.{Ranges}
 use Rattle.blocks.specs.Sheets.{Sheet}
 use Rattle.blocks.specs.Sinks.{Step}
 use Rattle.blocks.specs.Slots.{slot_holds, slot_at}
@@ -19,11 +18,11 @@ use Rattle.blocks.specs.Status.{Forces}
 use Rattle.blocks.specs.Views.{ranges}
 use Rattle.search.specs.declared.course.Course.{Course}
 use Rattle.search.specs.declared.trail.Reason.TheVariants.{Forced}
-use Rattle.search.specs.Search.{Entry, forced, IsReason, turn, FreeSlot}
+use Rattle.search.specs.Search.{Entry, IsReason, turn, FreeSlot}
 use Rattle.search.specs.Tallies.{Feed, fed}
 use Rattle.search.specs.Trails.{trail_of}
 use Rattle.search.specs.Courses.{Joined}
-use Rattle.search.specs.Moves.{Kept, Learnt, KeepsIn}
+use Rattle.search.specs.Moves.{Learnt, KeepsIn}
 use Rattle.search.proofs.Joining.{joined_trail, joined_left, joined_ends}
 
 -- slots of a part, and after a write

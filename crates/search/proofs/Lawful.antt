@@ -1,5 +1,5 @@
 -- The laws of the search, from the theory of its steps.
-use Rattle.std.proofs.Common.{◌≡◌, ℕ, ◌<◌, ◌≤◌, min, max, ◌⊎◌, ◌↔◌, List, [], ◌∷◌, map, sym, refl, ap, ◌∙◌, subst, ap₂, inl, inr, arith}
+use Rattle.std.proofs.Common.{◌≡◌, ℕ, ◌≤◌, ◌⊎◌, List, [], ◌∷◌, map, sym, refl, ◌∙◌, subst, ap₂, inl, inr, arith}
 use Rattle.std.proofs.lemmas.Bool.{cases_lt}
 use Rattle.blocks.specs.declared.bound.Bound.{Bound}
 use Rattle.blocks.specs.declared.bound.Bound.TheVariants.{AtMost, AtLeast}
@@ -7,7 +7,7 @@ use Rattle.blocks.specs.declared.line.Line.{Line}
 use Rattle.blocks.specs.Ranges.{Ranges, narrow}
 use Rattle.blocks.specs.Sheets.{Sheet, Proper}
 use Rattle.blocks.proofs.Ranging.{narrow_low, narrow_high}
-use Rattle.search.specs.Search.{Entry, bound_of, region, State, cold, Verdict, found, none, no_slot, blocks_of, Steps, Ends, all_dead, run_out, full, Run}
+use Rattle.search.specs.Search.{Entry, bound_of, region, State, cold, Verdict, found, none, no_slot, blocks_of, Ends, all_dead, run_out, full, Run}
 use Rattle.search.specs.Laws.{Mem, OfARule, AllBreak, OneRun, AlwaysASlot, VerdictIsRight, TrailOfTheRules, FoundEnds}
 use Rattle.search.proofs.Sound.{found_same, run_none, run_found, steps_good, good_start}
 use Rattle.search.proofs.Same.{run_same}

@@ -1,5 +1,5 @@
 -- The bounds of all rules in one list: at most 192.
-use Rattle.std.proofs.Common.{◌≡◌, ℕ, zero, suc, ◌+◌, ◌-◌, ◌*◌, ◌<◌, ◌≤◌, cond, ltb, ◌≢◌, ◌⊎◌, List, [], ◌∷◌, ◌++◌, length, Some, None, Option, sym, refl, ap, ◌∙◌, subst, inl, inr, arith, length-append}
+use Rattle.std.proofs.Common.{◌≡◌, ℕ, zero, suc, ◌+◌, ◌-◌, ◌*◌, ◌<◌, ◌≤◌, cond, ltb, ◌⊎◌, List, [], ◌∷◌, ◌++◌, length, Some, sym, refl, ap, subst, inl, inr, arith, length-append}
 use Rattle.std.specs.List.{slice_get}
 use Rattle.std.proofs.lemmas.Bool.{cases_eq, cases_lt, lt-ltb, le-ltb}
 use Rattle.blocks.specs.declared.bound.Bound.{Bound}
@@ -7,13 +7,13 @@ use Rattle.blocks.specs.declared.bound.Bound.TheVariants.{AtMost, AtLeast}
 use Rattle.blocks.specs.declared.line.Line.{Line}
 use Rattle.blocks.specs.Bounds.{setting}
 use Rattle.blocks.specs.Counts.{bounds_at, bounds_below}
-use Rattle.blocks.specs.Ranges.{Ranges, Stands}
+use Rattle.blocks.specs.Ranges.{Ranges}
 use Rattle.blocks.specs.Sheets.{Sheet, Proper}
 use Rattle.blocks.specs.Status.{BoundOf}
 use Rattle.blocks.proofs.Numbers.{some_same}
 use Rattle.search.specs.Search.{State, cold, Verdict, no_slot, Step, Steps, Run}
 use Rattle.search.specs.Laws.{Mem}
-use Rattle.search.proofs.Ends.{From, Lists, left, trail_short, step_falls, never_full}
+use Rattle.search.proofs.Ends.{Lists, left, trail_short, step_falls, never_full}
 use Rattle.search.proofs.Total.{none_some, rank_below, run_exists}
 
 module _ {A : Type 0} (x : A) where

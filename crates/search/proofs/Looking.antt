@@ -1,5 +1,5 @@
 -- Blocks by their numbers: those of the rules below 100, those of the slots from there on.
-use Rattle.std.proofs.Common.{◌≡◌, ℕ, zero, suc, ◌+◌, ◌-◌, ◌<◌, ◌≤◌, ◌⊎◌, List, [], ◌∷◌, map, length, get_or, take, IfSome, Some, None, Option, sym, refl, ap, ◌∙◌, subst, subst₂, inl, inr, arith}
+use Rattle.std.proofs.Common.{◌≡◌, ℕ, zero, suc, ◌+◌, ◌-◌, ◌<◌, ◌≤◌, List, [], ◌∷◌, map, length, get_or, take, IfSome, Some, None, Option, sym, refl, ap, ◌∙◌, subst, subst₂, inl, inr, arith}
 use lib.ListN.{length-map}
 use Rattle.std.specs.List.{slice_get}
 use Rattle.std.proofs.lemmas.Option.{slice_get-get_or, slice_get_past}
@@ -8,14 +8,12 @@ use Rattle.std.proofs.lemmas.Bool.{cases_lt, lt-ltb, le-ltb}
 use Rattle.std.specs.Option.{option_or}
 use Rattle.blocks.specs.declared.slot.Slot.{Slot}
 use Rattle.blocks.specs.declared.standing.Standing.{Standing}
-use Rattle.blocks.specs.declared.status.Status.{Status}
 use Rattle.blocks.specs.Ranges.{Ranges}
 use Rattle.blocks.specs.Slots.{joined, slot_holds, slot_at}
-use Rattle.blocks.specs.Status.{Tells}
 use Rattle.blocks.specs.Views.{block_of, blocks}
 use Rattle.search.specs.declared.scan.Scan.{Scan}
 use Rattle.search.specs.declared.scan.Scan.TheVariants.{Broken, Forcing, Quiet}
-use Rattle.search.specs.Scans.{holding, Calm, Buried, FirstAlive, Scanned}
+use Rattle.search.specs.Scans.{holding, Calm, FirstAlive, Scanned}
 use Rattle.search.specs.Numbers.{numbered, slot_numbers}
 use Rattle.search.proofs.Total.{none_some}
 

@@ -1,5 +1,5 @@
 -- A search of the program, from a cold start to its end.
-use Rattle.std.proofs.Common.{◌≡◌, ℕ, ◌<◌, ◌≤◌, ◌⊎◌, List, [], ◌∷◌, ◌++◌, length, take, Some, None, Option, sym, refl, ap, ◌∙◌, subst, inl, inr, arith, MatchOption}
+use Rattle.std.proofs.Common.{◌≡◌, ℕ, ◌<◌, ◌≤◌, List, [], ◌++◌, length, take, Some, None, Option, sym, refl, ap, ◌∙◌, subst, inl, inr, arith, MatchOption}
 use Rattle.std.specs.List.{slice_get}
 use Rattle.std.proofs.lemmas.Bool.{cases_lt}
 use Rattle.blocks.specs.declared.line.Line.{Line}
@@ -11,12 +11,12 @@ use Rattle.blocks.specs.Slots.{slot_at}
 use Rattle.blocks.specs.Views.{ranges}
 use Rattle.search.specs.declared.course.Course.{Course}
 use Rattle.search.specs.declared.moves.Ended.{Ended}
-use Rattle.search.specs.Search.{State, cold, region, Step, Steps, here, on, Run}
+use Rattle.search.specs.Search.{cold, region, Steps, here, on, Run}
 use Rattle.search.specs.Tallies.{Feed, fed_all}
 use Rattle.search.specs.Trails.{trail_below}
 use Rattle.search.specs.Courses.{state_of}
 use Rattle.search.specs.Moves.{Going, Goes, Stops, verdict_at}
-use Rattle.search.specs.Solve.{LeftIn, FilledFirst, Ran}
+use Rattle.search.specs.Solve.{Ran}
 use Rattle.search.proofs.Ends.{left}
 use Rattle.search.proofs.Feeding.{fed_more}
 use Rattle.search.proofs.Keeping.{slot_take, slot_take_past}

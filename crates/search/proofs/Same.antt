@@ -1,18 +1,18 @@
 -- A search has one run.
-use Rattle.std.proofs.Common.{◌≡◌, ℕ, zero, suc, ◌+◌, ◌-◌, ◌*◌, ◌%◌, ◌<◌, ◌≤◌, eqb, ◌≢◌, ◌⊎◌, List, [], ◌∷◌, ◌++◌, Some, None, Option, sym, refl, ap, ◌∙◌, subst, ap₂, subst₂, inl, inr, ⊎_elim, append_assoc, append-nil, arith}
+use Rattle.std.proofs.Common.{◌≡◌, ℕ, suc, ◌+◌, ◌<◌, eqb, List, [], ◌∷◌, ◌++◌, Some, Option, sym, refl, ap, ◌∙◌, subst, ap₂, subst₂, inl, inr, append_assoc, append-nil, arith}
 use Rattle.std.specs.Map.{update}
-use Rattle.std.proofs.lemmas.Bool.{cases_eq, cases_lt, cases_order}
+use Rattle.std.proofs.lemmas.Bool.{cases_eq, cases_order}
 use Rattle.std.proofs.lemmas.Bool.Decides.{nat_tests}
 use Rattle.blocks.specs.declared.bound.Bound.{Bound}
 use Rattle.blocks.specs.declared.bound.Bound.TheVariants.{AtMost, AtLeast}
-use Rattle.blocks.specs.Bounds.{Profile, setting, rank}
-use Rattle.blocks.specs.Ranges.{Ranges, Stands, everything, In, Inside, narrow, resolve, Resolvable}
-use Rattle.blocks.specs.Status.{BoundOf, True, False, Open, Dead, Broken, Forcing, Forces, FirstOpen}
-use Rattle.blocks.specs.Sheets.{Sheet, block_at}
+use Rattle.blocks.specs.Bounds.{setting, rank}
+use Rattle.blocks.specs.Ranges.{Ranges, resolve}
+use Rattle.blocks.specs.Status.{BoundOf, Broken, Forces, FirstOpen}
+use Rattle.blocks.specs.Sheets.{Sheet}
 use Rattle.blocks.specs.declared.line.Line.{Line}
-use Rattle.blocks.specs.Lines.{t_line, r_line, k_line, e_line}
+use Rattle.blocks.specs.Lines.{t_line, r_line, k_line}
 use Rattle.search.specs.Search.{First}
-use Rattle.search.specs.Search.{Entry, decided, forced, bound_of, region, IsReason, State, cold, Outcome, learnt, over, Analysis, out, pass, into, stop, FreeSlot, turn, Verdict, found, none, no_slot, blocks_of, region_of, Hit, NotDead, Conflict, Step, force, decide, learn, Ends, all_dead, run_out, full, Steps, here, on, Run}
+use Rattle.search.specs.Search.{Entry, decided, forced, region, IsReason, State, Outcome, learnt, over, Analysis, out, pass, into, stop, FreeSlot, turn, Verdict, blocks_of, region_of, Hit, NotDead, Conflict, Step, force, decide, learn, Ends, all_dead, run_out, full, Steps, here, on, Run}
 use Rattle.blocks.proofs.Numbers.{some_same}
 
 pub first_same : (P : ℕ → Type 0) (j k : ℕ) → First P j → First P k → j ≡ k

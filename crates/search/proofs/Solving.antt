@@ -1,5 +1,5 @@
 -- A run over the slots that are used, told as a verdict over the whole area.
-use Rattle.std.proofs.Common.{◌≡◌, ℕ, zero, suc, ◌+◌, ◌-◌, ◌<◌, ◌≤◌, min, ◌⊎◌, List, [], ◌∷◌, ◌++◌, length, take, drop, Some, None, Option, sym, refl, ap, ◌∙◌, subst, subst₂, inl, inr, arith, length-append, length-drop, MatchOption}
+use Rattle.std.proofs.Common.{◌≡◌, ℕ, zero, suc, ◌-◌, ◌<◌, ◌≤◌, min, List, [], ◌∷◌, ◌++◌, length, take, drop, Some, None, Option, sym, refl, ap, ◌∙◌, subst, subst₂, inl, inr, arith, length-append, length-drop, MatchOption}
 use borrow.Rule.Slice.PartMut.{post_of, Post-is}
 use Rattle.std.specs.List.{slice_get}
 use Rattle.std.proofs.lemmas.List.{length-take-le}
@@ -15,7 +15,7 @@ use Rattle.search.specs.declared.moves.Ended.{Ended}
 use Rattle.search.specs.Moves.{verdict_at}
 use Rattle.search.specs.Search.{cold, Verdict, Run}
 use Rattle.search.specs.Solve.{used, LeftIn, Searched, Ran}
-use Rattle.search.specs.Tallies.{Feed, feed, fed_all}
+use Rattle.search.specs.Tallies.{Feed, feed}
 use Rattle.search.proofs.Feeding.{Told, told_none, told_all}
 use Rattle.search.proofs.Total.{none_some}
 

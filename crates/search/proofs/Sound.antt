@@ -1,21 +1,16 @@
 -- What holds after every step of a search, and what its end then says.
-use Rattle.std.proofs.Common.{◌≡◌, ℕ, zero, suc, ◌+◌, ◌-◌, ◌%◌, ◌<◌, ◌≤◌, true, false, cond, eqb, ltb, ◌≢◌, ◌⊎◌, List, [], ◌∷◌, ◌++◌, length, Some, None, Option, sym, refl, ap, ◌∙◌, subst, inl, inr, ⊎_elim, arith}
+use Rattle.std.proofs.Common.{◌≡◌, ℕ, eqb, List, [], ◌∷◌, length, Some, Option, refl, ◌∙◌, subst, inl, inr, ⊎_elim, arith}
 use Rattle.std.specs.Map.{update}
 use Rattle.std.specs.List.{slice_get}
-use Rattle.std.proofs.lemmas.Map.{update_here, update_apart}
 use Rattle.std.proofs.lemmas.Option.{slice_get_past}
-use Rattle.std.proofs.lemmas.Bool.{cases_eq, cases_lt, lt-ltb, le-ltb}
+use Rattle.std.proofs.lemmas.Bool.{cases_lt, lt-ltb}
 use Rattle.blocks.specs.declared.bound.Bound.{Bound}
-use Rattle.blocks.specs.declared.bound.Bound.TheVariants.{AtMost, AtLeast}
-use Rattle.blocks.specs.Bounds.{Profile, setting, rank}
+use Rattle.blocks.specs.Bounds.{Profile, setting}
 use Rattle.blocks.specs.Ranges.{Ranges, Stands, everything, In, Inside, narrow, resolve, Resolvable}
-use Rattle.blocks.specs.Status.{BoundOf, True, False, Open, Dead, Broken, Forcing, Forces, FirstOpen}
 use Rattle.blocks.specs.Sheets.{Sheet, block_at, Proper, Breaks}
 use Rattle.blocks.specs.declared.line.Line.{Line}
-use Rattle.blocks.specs.Lines.{t_line, r_line, k_line, e_line}
-use Rattle.search.specs.Search.{First}
-use Rattle.search.specs.Search.{Entry, decided, forced, bound_of, region, IsReason, State, cold, Outcome, learnt, over, Analysis, out, pass, into, stop, FreeSlot, Verdict, found, none, no_slot, blocks_of, region_of, Hit, NotDead, Conflict, Step, force, decide, learn, Ends, all_dead, run_out, full, Steps, here, on, Run}
-use Rattle.blocks.proofs.Numbers.{block_at_slot, put_here, put_apart, some_same, put_all, Implied, Lawful, lawful_start}
+use Rattle.search.specs.Search.{Entry, decided, forced, bound_of, region, IsReason, State, cold, Outcome, learnt, over, Analysis, out, pass, into, stop, Verdict, found, none, blocks_of, region_of, Conflict, Step, force, decide, learn, Ends, all_dead, run_out, full, Steps, here, on, Run}
+use Rattle.blocks.proofs.Numbers.{put_here, put_apart, some_same, put_all, Implied, Lawful, lawful_start}
 use Rattle.blocks.proofs.Ranging.{OpenAt, Covers, resolve_in, resolve_stands, open_at, broken_inside, dead_apart, forces_covers, narrow_stands, undo_forced, undo_decided}
 
 -- each entry's bound was open, and its reason covers what it cut off

@@ -1,5 +1,5 @@
 -- From a scan to the step, or to the end, that it calls for.
-use Rattle.std.proofs.Common.{◌≡◌, ℕ, zero, suc, ◌+◌, ◌-◌, ◌<◌, ◌≤◌, ◌⊎◌, List, [], ◌∷◌, length, take, Some, None, Option, sym, refl, ap, ◌∙◌, subst, subst₂, inl, inr, arith}
+use Rattle.std.proofs.Common.{◌≡◌, ℕ, zero, suc, ◌+◌, ◌-◌, ◌<◌, ◌≤◌, List, [], ◌∷◌, length, take, Some, None, Option, sym, refl, ap, ◌∙◌, subst, inl, inr, arith}
 use Rattle.std.proofs.lemmas.Bool.{cases_lt, le-ltb}
 use Rattle.blocks.specs.declared.bound.Bound.{Bound}
 use Rattle.blocks.specs.declared.line.Line.{Line}
@@ -11,19 +11,18 @@ use Rattle.blocks.specs.Sinks.{Step as SinkStep}
 use Rattle.blocks.specs.Slots.{slot_at}
 use Rattle.blocks.specs.Bounds.{told}
 use Rattle.blocks.specs.declared.status.Status.TheVariants.{Open as unsettled}
-use Rattle.blocks.specs.Status.{Dead, Broken, Forces, FirstOpen, Tells}
+use Rattle.blocks.specs.Status.{Dead, Forces, FirstOpen, Tells}
 use Rattle.blocks.specs.Views.{ranges}
 use Rattle.search.specs.declared.course.Course.{Course}
 use Rattle.search.specs.declared.scan.Scan.TheVariants.{Broken as at_broken, Forcing as at_forcing, Quiet as quiet}
 use Rattle.search.specs.declared.moves.Ended.TheVariants.{Found}
 use Rattle.search.specs.declared.trail.Reason.{Reason}
-use Rattle.search.specs.declared.trail.Reason.TheVariants.{Decided, Forced}
 use Rattle.search.specs.declared.trail.TrailEntry.{TrailEntry}
-use Rattle.search.specs.Search.{First, Entry, forced, decided, found, State, blocks_of, region_of, Hit, NotDead, Step, force, decide, on, Ends, all_dead}
+use Rattle.search.specs.Search.{First, Entry, found, State, blocks_of, region_of, Hit, NotDead, Step, on, Ends, all_dead}
 use Rattle.search.specs.Tallies.{Feed}
 use Rattle.search.specs.Trails.{reasoned, trail_below, trail_of}
 use Rattle.search.specs.Courses.{state_of, Joined}
-use Rattle.search.specs.Moves.{Kept, Going, Goes, Stops, BreaksFirst}
+use Rattle.search.specs.Moves.{Going, Goes, Stops, BreaksFirst}
 use Rattle.search.specs.Scans.{Calm, Scanned}
 use Rattle.search.proofs.Sound.{Good, stands, steps_good, good_start}
 use Rattle.search.proofs.Total.{none_some, Status, dead, broken, forcing, opens, status, dead_not_broken, dead_not_forcing}

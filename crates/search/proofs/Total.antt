@@ -1,27 +1,24 @@
 -- Every search has a run: from each state there is a step or an end.
-use Rattle.std.proofs.Common.{◌≡◌, ℕ, zero, suc, pred, ◌+◌, ◌-◌, ◌*◌, ◌/◌, ◌%◌, ◌<◌, ◌≤◌, Bool, true, false, eqb, ltb, leb, ◌≢◌, ◌⊎◌, List, [], ◌∷◌, ◌++◌, length, Some, None, Option, sym, refl, ap, ◌∙◌, subst, inl, inr, ⊎_elim, le_refl, arith}
-use Rattle.std.specs.Map.{update}
-use Rattle.std.specs.List.{slice_get}
-use Rattle.std.proofs.lemmas.Option.{slice_get_past}
+use Rattle.std.proofs.Common.{◌≡◌, ℕ, zero, suc, pred, ◌+◌, ◌-◌, ◌*◌, ◌/◌, ◌%◌, ◌<◌, ◌≤◌, ◌≢◌, ◌⊎◌, List, [], ◌∷◌, ◌++◌, length, Some, None, Option, sym, refl, ap, ◌∙◌, subst, inl, inr, ⊎_elim, le_refl, arith}
 use Rattle.std.proofs.lemmas.Map.{update_apart}
-use Rattle.std.proofs.lemmas.Bool.{ltb-true, ltb-false, eqb-true, eqb-false, le-ltb}
+use Rattle.std.proofs.lemmas.Bool.{le-ltb}
 use Rattle.std.proofs.lemmas.Bool.Decides.{nat_tests}
 use Rattle.blocks.specs.declared.bound.Bound.{Bound}
 use Rattle.blocks.specs.declared.bound.Bound.TheVariants.{AtMost, AtLeast}
-use Rattle.blocks.specs.Bounds.{Profile, setting, rank}
-use Rattle.blocks.specs.Ranges.{Ranges, Stands, everything, In, Inside, narrow, resolve, Resolvable}
+use Rattle.blocks.specs.Bounds.{setting, rank}
+use Rattle.blocks.specs.Ranges.{Ranges, Stands, Inside, resolve}
 use Rattle.blocks.specs.Status.{BoundOf, True, False, Open, Dead, Broken, Forcing, Forces, FirstOpen}
-use Rattle.blocks.specs.Sheets.{Sheet, Proper, block_at, Breaks}
+use Rattle.blocks.specs.Sheets.{Sheet, Proper}
 use Rattle.blocks.specs.declared.line.Line.{Line}
-use Rattle.blocks.specs.Lines.{t_line, r_line, k_line, e_line}
+use Rattle.blocks.specs.Lines.{t_line, r_line, e_line}
 use Rattle.search.specs.Search.{First}
-use Rattle.search.specs.Search.{Entry, decided, forced, bound_of, region, IsReason, State, cold, Outcome, learnt, over, Analysis, out, pass, into, stop, turn, FreeSlot, Verdict, found, none, no_slot, blocks_of, region_of, Hit, NotDead, Conflict, Step, force, decide, learn, Ends, all_dead, run_out, full, Steps, here, on, Run}
-use Rattle.blocks.proofs.Ranging.{TrueAt, FalseAt, OpenAt, Covers, true_at, false_at, open_at, broken_inside, covers_forces, by_setting}
-use Rattle.search.proofs.Sound.{Sound, Good, Came, sound_open, region_stands, stands, conflict_sound, steps_good, good_start, step_good, resolved}
-use Rattle.blocks.proofs.Numbers.{Implied, Lawful, some_same}
+use Rattle.search.specs.Search.{Entry, decided, forced, region, IsReason, State, cold, Outcome, learnt, over, Analysis, out, pass, into, stop, turn, FreeSlot, Verdict, found, none, no_slot, blocks_of, region_of, Hit, NotDead, Conflict, Step, force, decide, learn, Ends, all_dead, run_out, full, Steps, here, on, Run}
+use Rattle.blocks.proofs.Ranging.{TrueAt, FalseAt, OpenAt, true_at, false_at, open_at, broken_inside, covers_forces}
+use Rattle.search.proofs.Sound.{Sound, Good, Came, sound_open, region_stands, stands, conflict_sound, steps_good, good_start, resolved}
+use Rattle.blocks.proofs.Numbers.{Lawful, some_same}
 use Rattle.search.proofs.Least.{cases_lt, cases_eq, Either, first_below}
 use Rattle.search.proofs.Same.{bound_same}
-use Rattle.search.proofs.Ends.{Lists, left, step_falls, never_full}
+use Rattle.search.proofs.Ends.{Lists, left, step_falls}
 
 abbrev pub all_or_not : (P : ℕ → Type 0) → ((i : ℕ) → Either (P i)) → (n : ℕ) → ((i : ℕ) → n ≤ i → P i) → Either ((i : ℕ) → P i)
 all_or_not P dec n far = ⊎_elim (λ f. inr (λ all. f.2.is (all f.0))) (λ h. inl (λ i. elim (cases_lt i n) [ inl l ↦ ⊎_elim (λ p. p) (λ q. absurd (h i l q)) (dec i) | inr l ↦ far i l ]))

@@ -1,15 +1,13 @@
 -- The trail of the program, entry by entry.
-use Rattle.std.proofs.Common.{◌≡◌, ℕ, zero, suc, ◌+◌, ◌-◌, ◌<◌, ◌≤◌, ◌≢◌, ◌⊎◌, List, [], ◌∷◌, length, get_or, set, sym, refl, ap, ◌∙◌, subst, inl, inr, ⊎_elim, arith}
-use Rattle.std.proofs.lemmas.List.{get_or-set_same, get_or-set_other}
-use Rattle.std.proofs.lemmas.Bool.{cases_eq, cases_lt}
+use Rattle.std.proofs.Common.{◌≡◌, ℕ, zero, suc, ◌+◌, ◌-◌, ◌<◌, ◌≤◌, ◌⊎◌, List, ◌∷◌, get_or, refl, ap, subst, inl, inr, ⊎_elim, arith}
+use Rattle.std.proofs.lemmas.Bool.{cases_eq}
 use Rattle.std.proofs.lemmas.Bool.Decides.{nat_tests}
 use Rattle.blocks.specs.declared.bound.Bound.{Bound}
-use Rattle.blocks.specs.Ranges.{Ranges, end, narrow}
 use Rattle.search.specs.declared.trail.Reason.{Reason}
 use Rattle.search.specs.declared.trail.Reason.TheVariants.{Decided, Forced}
 use Rattle.search.specs.declared.trail.TrailEntry.{TrailEntry}
-use Rattle.search.specs.Search.{Entry, decided, forced, bound_of, region, IsReason, turn, FreeSlot}
-use Rattle.search.specs.Trails.{reasoned, entry_of, no_entry, trail_below, KeepsEnds}
+use Rattle.search.specs.Search.{Entry, bound_of, IsReason, turn}
+use Rattle.search.specs.Trails.{reasoned, no_entry, trail_below}
 
 pub reasoned_bound : (β : Bound) (r : Reason) → bound_of (reasoned β r) ≡ β
 reasoned_bound β Decided = refl

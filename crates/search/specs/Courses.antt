@@ -1,5 +1,5 @@
 -- Where a search of the program stands, as the relation has it.
-use Rattle.std.specs.Prelude.{◌≡◌, ℕ, ◌+◌, ◌<◌, ◌≤◌, List, ◌∷◌, length, take, Some, Option, slice_set}
+use Rattle.std.specs.Prelude.{◌≡◌, ℕ, ◌+◌, List, take, Some, Option, slice_set}
 use Rattle.blocks.specs.declared.bound.Bound.{Bound}
 use Rattle.blocks.specs.declared.slot.Slot.{Slot}
 use Rattle.blocks.specs.declared.status.Status.TheVariants.{Open as undecided}
@@ -10,8 +10,8 @@ use Rattle.blocks.specs.Views.{ranges}
 use Rattle.search.specs.declared.course.Course.{Course}
 use Rattle.search.specs.declared.trail.Reason.{Reason}
 use Rattle.search.specs.declared.trail.Reason.TheVariants.{Decided}
-use Rattle.search.specs.Search.{State, region}
-use Rattle.search.specs.Trails.{trail_of, KeepsEnds}
+use Rattle.search.specs.Search.{State}
+use Rattle.search.specs.Trails.{trail_of}
 
 -- the state: the trail, the slots that are filled, and where the round goes on
 abbrev pub state_of : Course → List Slot → State

@@ -1,5 +1,5 @@
 -- Worked searches, over the definitions that the calls' contracts cite.
-use Rattle.std.specs.Prelude.{◌≡◌, ℕ, List, [], ◌∷◌, length, Ok, Err, Result, slice_index}
+use Rattle.std.specs.Prelude.{◌≡◌, List, [], ◌∷◌, length, Ok, Err, Result, slice_index}
 use Rattle.scales.specs.declared.refusal.Refusal.{Refusal}
 use Rattle.scales.specs.declared.refusal.Stop.TheVariants.{AreaTooSmall}
 use Rattle.scales.specs.Stops.{number, no_place}

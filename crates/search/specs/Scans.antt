@@ -1,5 +1,5 @@
 -- A scan over places in order: the first block that is broken or forcing in a region, or else the first that is not dead.
-use Rattle.std.specs.Prelude.{◌≡◌, ℕ, ◌<◌, ◌⊎◌, List, map, length, Some, None, Option}
+use Rattle.std.specs.Prelude.{◌≡◌, ℕ, ◌<◌, ◌⊎◌, List, map, Some, None, Option}
 use Rattle.std.specs.List.{slice_get}
 use Rattle.blocks.specs.declared.status.Status.TheVariants.{Dead as dead, Broken as broken, Forcing as forcing, Open as undecided}
 use Rattle.blocks.specs.Ranges.{Ranges}

@@ -1,5 +1,5 @@
 -- A solve: its refusals, its verdict, and what it leaves in the work area and in the sink.
-use Rattle.std.specs.Prelude.{◌≡◌, ℕ, ◌<◌, ◌≤◌, min, ◌⊎◌, List, length, Some, None, Ok, Err, Option, Result, MatchOption}
+use Rattle.std.specs.Prelude.{◌≡◌, ℕ, ◌<◌, ◌≤◌, min, ◌⊎◌, List, length, Some, Ok, Err, Option, Result, MatchOption}
 use Rattle.std.specs.List.{slice_get}
 use Rattle.scales.specs.declared.refusal.Refusal.{Refusal}
 use Rattle.scales.specs.declared.refusal.Stop.TheVariants.{AreaTooSmall, NoSlotFree}

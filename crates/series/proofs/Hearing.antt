@@ -1,22 +1,21 @@
 -- A search that was sent to a sink of any states, as one that was sent to what the sink answers.
-use Rattle.std.proofs.Common.{◌≡◌, ℕ, zero, suc, ◌<◌, ◌≤◌, List, [], ◌∷◌, ◌++◌, map, length, Some, None, Ok, Err, Option, Result, sym, refl, ap, ◌∙◌, subst, ap₂, inl, inr, arith, MatchOption}
+use Rattle.std.proofs.Common.{◌≡◌, ℕ, suc, ◌≤◌, List, [], ◌∷◌, ◌++◌, length, Some, None, Ok, Err, Option, Result, sym, refl, ap, ◌∙◌, subst, ap₂, inl, inr, arith, MatchOption}
 use lib.ListN.{length-map}
-use Rattle.std.specs.List.{slice_get}
 use Rattle.scales.specs.declared.refusal.Refusal.{Refusal}
 use Rattle.blocks.specs.declared.line.Line.{Line}
 use Rattle.blocks.specs.declared.slot.Slot.{Slot}
 use Rattle.blocks.specs.Ranges.{Ranges}
 use Rattle.blocks.specs.Sheets.{Sheet}
 use Rattle.blocks.specs.Sinks.{Step, taken, refused, next_of, state_after}
-use Rattle.blocks.specs.Slots.{slot_holds, holdings, slot_at}
+use Rattle.blocks.specs.Slots.{slot_holds, holdings}
 use Rattle.search.specs.declared.verdict.Answer.{Answer}
 use Rattle.search.specs.declared.verdict.Answer.TheVariants.{Found, Nothing}
 use Rattle.search.specs.declared.verdict.Verdict.{Verdict as Answered}
-use Rattle.search.specs.Search.{cold, Verdict, no_slot, Run}
+use Rattle.search.specs.Search.{cold, no_slot, Run}
 use Rattle.search.specs.Sends.{Takes, takes_none, takes_more, Sends, all_taken, refused_at}
-use Rattle.search.specs.Solve.{used, verdict_of, LeftIn, Searched, TooSmall, OutOfSlots, Solved}
+use Rattle.search.specs.Solve.{used, verdict_of, LeftIn, Searched, Solved}
 use Rattle.series.specs.Hearers.{number_of, hearer, hears_as, hears}
-use Rattle.series.specs.Solving.{Area, put_or, filled, Told, Searches, Solves, too_small, carried_out, no_slot_free, told_by, told}
+use Rattle.series.specs.Solving.{put_or, filled, Told, Searches, Solves, too_small, carried_out, no_slot_free, told_by, told}
 
 module _ {M : Type 0} (step : M → Line → Step M) (from : M) where
   -- the state after one line more

@@ -1,5 +1,5 @@
 -- Grounds that a judge accepts, as lines and as bytes.
-use Rattle.std.specs.Prelude.{◌≡◌, ℕ, ◌*◌, List, [], ◌∷◌, length, take, None, Ok, Option}
+use Rattle.std.specs.Prelude.{◌≡◌, ℕ, ◌*◌, List, length, take, None, Ok, Option}
 use Rattle.std.specs.List.{flat_map}
 use Rattle.blocks.specs.declared.line.Line.{Line}
 use Rattle.blocks.specs.Ranges.{Ranges}

@@ -1,5 +1,5 @@
 -- The calls on a closed sheet, what they answer, and what one call does.
-use Rattle.std.specs.Prelude.{ℕ, Bool, true, false, cond, ◌&&◌, List, [], ◌∷◌, length, Ok, Err, Result}
+use Rattle.std.specs.Prelude.{ℕ, Bool, true, false, cond, ◌&&◌, List, [], length, Ok, Err, Result}
 use Rattle.scales.specs.declared.refusal.Refusal.{Refusal}
 use Rattle.scales.specs.Checks.{Passes, Refuses}
 use Rattle.blocks.specs.declared.bound.Bound.{Bound}

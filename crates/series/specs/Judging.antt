@@ -1,5 +1,5 @@
 -- A record of bytes, judged as a whole: opening, line by line up to the first refused, finding.
-use Rattle.std.specs.Prelude.{◌≡◌, ℕ, ◌<◌, List, [], ◌∷◌, ◌++◌, length, Ok, Err, Option, Result, ◌≢◌}
+use Rattle.std.specs.Prelude.{◌≡◌, ℕ, ◌<◌, List, [], ◌++◌, length, Ok, Err, Option, Result, ◌≢◌}
 use Rattle.std.specs.List.{flat_map}
 use Rattle.scales.specs.declared.refusal.Refusal.{Refusal}
 use Rattle.scales.specs.declared.refusal.Stop.TheVariants.{BadShape, EndMissing}

@@ -1,5 +1,5 @@
 -- What holds of every series of calls on a sheet.
-use Rattle.std.specs.Prelude.{◌≡◌, ℕ, ◌<◌, ◌≤◌, ◌⊎◌, ◌↔◌, List, [], ◌∷◌, ◌++◌, length, Some, Err, Option}
+use Rattle.std.specs.Prelude.{◌≡◌, ℕ, ◌≤◌, ◌⊎◌, ◌↔◌, List, [], ◌∷◌, ◌++◌, length, Some, Err}
 use Rattle.std.specs.List.{flat_map, AllByRecursion as All, slice_get}
 use Rattle.scales.specs.declared.refusal.Refusal.{Refusal}
 use Rattle.scales.specs.declared.refusal.Stop.TheVariants.{AreaTooSmall}
@@ -11,7 +11,7 @@ use Rattle.blocks.specs.Ranges.{Ranges, In}
 use Rattle.blocks.specs.Rules.{admit_checks, with_rules, rules_checks}
 use Rattle.blocks.specs.Sheets.{Sheet}
 use Rattle.record.specs.LineBytes.{line_bytes}
-use Rattle.search.specs.Search.{Verdict, found, none}
+use Rattle.search.specs.Search.{found, none}
 use Rattle.checker.specs.Courts.{ended}
 use Rattle.checker.specs.Findings.{after, JudgesRightly}
 use Rattle.series.specs.Hearers.{Hearer}
@@ -19,7 +19,7 @@ use Rattle.series.specs.Judging.{Judged}
 use Rattle.series.specs.Accepting.{Accepts, AcceptsBytes}
 use Rattle.series.specs.Solving.{Area, Told, Searches}
 use Rattle.series.specs.Calls.{Rule, Call, post, try, solve, judge, Reply, refused, posted, verdict, accepted, Answer, answer, Does}
-use Rattle.series.specs.Series.{History, closed, and, newly_closed, Series, standing}
+use Rattle.series.specs.Series.{History, and, newly_closed, Series, standing}
 use Rattle.series.specs.Choices.{ChoiceMeetsRule, NoChoice, AllMeet, positions, AllMade}
 
 -- the sheet of these settings on which these rules stand, in order

@@ -1,4 +1,4 @@
-use Rattle.std.proofs.Common.{◌≡◌, true, length, is_ok, sym, ap, ◌∙◌}
+use Rattle.std.proofs.Common.{length, is_ok, sym, ap, ◌∙◌}
 use Rattle.checker.specs.Courts.{court_of}
 use Rattle.checker.proofs.Soundness.{accepts_ended}
 use Rattle.checker_tests.proofs.Hearing.{same_sheet, since_opening, ends_too, both_ok}

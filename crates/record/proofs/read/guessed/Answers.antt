@@ -1,5 +1,4 @@
-use Rattle.std.proofs.Common.{◌≡◌, length, get_or, sym, ap, ◌∙◌, arith}
-use Rattle.record.specs.LineBytes.{line_bytes}
+use Rattle.std.proofs.Common.{length, get_or, sym, ap, ◌∙◌}
 use Rattle.record.proofs.Lettered.{line_length, reads_block, reads_setting}
 use Rattle.record.proofs.read.guessed.Goals as goal
 

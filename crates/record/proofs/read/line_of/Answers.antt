@@ -1,4 +1,4 @@
-use Rattle.std.proofs.Common.{◌≡◌, Some, sym, ap, ◌∙◌}
+use Rattle.std.proofs.Common.{Some, sym, ap, ◌∙◌}
 use Rattle.record.proofs.Lettered.{is_take, is_resolve, is_keep}
 use Rattle.record.proofs.read.line_of.Goals as goal
 

@@ -1,4 +1,4 @@
-use Rattle.std.proofs.Common.{◌≡◌, Ok, sym, ap, ◌∙◌}
+use Rattle.std.proofs.Common.{Ok, sym, ap, ◌∙◌}
 use Rattle.record.proofs.Lettered.{same_line}
 use Rattle.record.proofs.read.read_line.Goals as goal
 

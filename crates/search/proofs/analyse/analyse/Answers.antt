@@ -1,8 +1,7 @@
-use Rattle.std.proofs.Common.{◌≡◌, ℕ, List, Some, sym, refl, ap, ◌∙◌, subst}
+use Rattle.std.proofs.Common.{◌≡◌, ℕ, List, sym, refl, ap, ◌∙◌, subst}
 use Rattle.blocks.specs.declared.line.Line.TheVariants.{Resolve}
 use Rattle.blocks.specs.declared.standing.Standing.{Standing}
 use Rattle.blocks.specs.Lines.{r_line}
-use Rattle.blocks.specs.Ranges.{Ranges}
 use Rattle.blocks.specs.Problems.{posed}
 use Rattle.blocks.specs.Slots.{slot_at}
 use Rattle.blocks.specs.Views.{ranges}

@@ -1,7 +1,5 @@
-use Rattle.std.proofs.Common.{◌≡◌, ℕ, ◌+◌, length, Some, None, Option, sym, refl, ap, ◌∙◌, subst, add-one, arith}
-use Rattle.blocks.specs.declared.status.Status.{Status}
-use Rattle.blocks.specs.declared.status.Status.TheVariants.{Dead, Broken, Forcing, Open}
-use Rattle.blocks.specs.Ranges.{Ranges}
+use Rattle.std.proofs.Common.{◌≡◌, ℕ, ◌+◌, length, Some, None, sym, refl, ap, ◌∙◌, subst, add-one, arith}
+use Rattle.blocks.specs.declared.status.Status.TheVariants.{Dead}
 use Rattle.blocks.specs.Status.{see, Tells}
 use Rattle.blocks.specs.Views.{ranges}
 use Rattle.blocks.proofs.Seeing.{seen_below, seen_status, seen_dead}

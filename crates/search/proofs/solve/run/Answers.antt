@@ -1,4 +1,4 @@
-use Rattle.std.proofs.Common.{◌≡◌, refl, ap, ◌∙◌}
+use Rattle.std.proofs.Common.{refl, ap, ◌∙◌}
 use Rattle.blocks.specs.Problems.{posed}
 use Rattle.blocks.specs.Ranges.{everything}
 use Rattle.blocks.specs.Views.{last_at}

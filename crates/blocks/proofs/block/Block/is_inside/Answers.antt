@@ -1,5 +1,4 @@
-use Rattle.std.proofs.Common.{ℕ, ◌≤◌, inl, inr, arith}
-use Rattle.blocks.specs.Ranges.{Inside}
+use Rattle.std.proofs.Common.{◌≤◌, arith}
 use Rattle.blocks.specs.Views.{ranges}
 use Rattle.blocks.proofs.Arrays.{each_of}
 use Rattle.blocks.proofs.Ranging.{inside_means}

@@ -1,5 +1,4 @@
-use Rattle.std.proofs.Common.{◌≡◌, ℕ, ◌≤◌, get_or, sym, subst, arith}
-use Rattle.blocks.specs.Bounds.{Profile}
+use Rattle.std.proofs.Common.{◌≡◌, get_or, subst, arith}
 use Rattle.blocks.specs.Ranges.{Ranges, resolve, In}
 use Rattle.blocks.specs.Views.{ranges}
 use Rattle.blocks.proofs.Ranging.{resolve_in, same_block}

@@ -1,4 +1,4 @@
-use Rattle.std.proofs.Common.{◌≡◌, ℕ, sym, ap, ◌∙◌, subst, add-one, arith}
+use Rattle.std.proofs.Common.{◌≡◌, sym, ap, ◌∙◌, subst, add-one, arith}
 use Rattle.blocks.specs.Status.{see, Tells}
 use Rattle.blocks.specs.Views.{ranges}
 use Rattle.blocks.proofs.Seeing.{seen_below, seen_status}

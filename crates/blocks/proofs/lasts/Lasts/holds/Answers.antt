@@ -1,4 +1,4 @@
-use Rattle.std.proofs.Common.{◌≡◌, ℕ, ◌≤◌, length, get_or, sym, ap, subst, add-one, arith, below_more}
+use Rattle.std.proofs.Common.{◌≡◌, ℕ, ◌≤◌, length, subst, add-one, arith, below_more}
 use Rattle.blocks.specs.Counts.{bounds_below}
 use Rattle.blocks.specs.Views.{ranges, last_at, FitToStand}
 use Rattle.blocks.proofs.Arrays.{each_of, when_le}

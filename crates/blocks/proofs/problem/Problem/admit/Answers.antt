@@ -1,9 +1,8 @@
-use Rattle.std.proofs.Common.{◌≡◌, ◌≤◌, length, sym, arith}
+use Rattle.std.proofs.Common.{arith}
 use lib.ListN.{length-map}
 use Rattle.std.proofs.lemmas.Result.{err_from_is_err_and}
 use Rattle.blocks.specs.Problems.{sheet_of}
-use Rattle.blocks.specs.Rules.{OneToFour}
-use Rattle.blocks.specs.Views.{ranges, last_at, block_of, blocks}
+use Rattle.blocks.specs.Views.{ranges, last_at, block_of}
 use Rattle.blocks.proofs.Admitting.{breakers_some, bound_refused, always_met, rules_full, admitted}
 use Rattle.blocks.proofs.problem.Problem.admit.Goals as goal
 

@@ -1,6 +1,5 @@
-use Rattle.std.proofs.Common.{◌≡◌, ℕ, get_or, sym, subst, arith, below_more}
-use Rattle.blocks.specs.Ranges.{Ranges}
-use Rattle.blocks.specs.Views.{block_of, blocks, nowhere, FitToStand}
+use Rattle.std.proofs.Common.{get_or, sym, subst, arith, below_more}
+use Rattle.blocks.specs.Views.{blocks, nowhere, FitToStand}
 use Rattle.blocks.proofs.Viewing.{block_item}
 use Rattle.blocks.proofs.problem.Problem.pose.Goals as goal
 

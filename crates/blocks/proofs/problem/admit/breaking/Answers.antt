@@ -1,5 +1,4 @@
-use Rattle.std.proofs.Common.{◌≡◌, ℕ, length, sym, refl, subst, arith}
-use Rattle.blocks.specs.Ranges.{Ranges}
+use Rattle.std.proofs.Common.{◌≡◌, ℕ, length, sym, subst, arith}
 use Rattle.blocks.specs.Views.{ranges, last_at}
 use Rattle.blocks.proofs.Admitting.{BreakingFirst, breaking_none, breaking_fails, breaking_stops, breaking_more, breaking_all}
 use Rattle.blocks.proofs.problem.admit.breaking.Goals as goal

@@ -1,7 +1,7 @@
-use Rattle.std.proofs.Common.{[], get_or, sym, refl, subst, add-one, arith}
+use Rattle.std.proofs.Common.{[], add-one}
 use Rattle.std.proofs.lemmas.Result.{err_from_is_err_and}
 use Rattle.blocks.specs.Problems.{sheet_of}
-use Rattle.blocks.proofs.Admitting.{going_first, going_fails, going_more, going_all, no_bound}
+use Rattle.blocks.proofs.Admitting.{going_first, going_fails, going_more, going_all}
 use Rattle.blocks.proofs.problem.admit.check_bounds.Goals as goal
 
 pub returns-in_err-check_bound : goal.returns-in_err-check_bound

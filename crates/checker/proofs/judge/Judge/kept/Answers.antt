@@ -1,5 +1,4 @@
-use Rattle.std.proofs.Common.{◌≡◌, sym, ap, ◌∙◌, arith}
-use Rattle.blocks.specs.declared.slot.Slot.TheVariants.{Empty}
+use Rattle.std.proofs.Common.{sym, ap, ◌∙◌, arith}
 use Rattle.blocks.specs.Slots.{slot_holds, joined}
 use Rattle.checker.proofs.Looking.{seen, unseen}
 use Rattle.checker.proofs.judge.Judge.kept.Goals as goal

@@ -1,8 +1,8 @@
-use Rattle.std.proofs.Common.{◌≡◌, List, length, Option, refl, ap, ◌∙◌}
+use Rattle.std.proofs.Common.{List, length, Option, refl, ap, ◌∙◌}
 use Rattle.blocks.specs.Problems.{posed}
 use Rattle.blocks.specs.Ranges.{Ranges}
 use Rattle.blocks.specs.Slots.{holdings}
-use Rattle.checker.specs.Courts.{Court, idle}
+use Rattle.checker.specs.Courts.{idle}
 use Rattle.blocks.proofs.Properness.{problem_proper}
 use Rattle.checker.proofs.Soundness.{judges_rightly}
 use Rattle.checker.proofs.Values.{empty_holds_nothing}

@@ -1,4 +1,4 @@
-use Rattle.std.proofs.Common.{◌≡◌, List, length, get_or, Some, sym, ap, ◌∙◌, arith}
+use Rattle.std.proofs.Common.{List, length, get_or, Some, sym, ap, ◌∙◌, arith}
 use Rattle.blocks.specs.declared.standing.Standing.{Standing}
 use Rattle.blocks.specs.Views.{block_of}
 use Rattle.checker.proofs.Looking.{seen, unseen}

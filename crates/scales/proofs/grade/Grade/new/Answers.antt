@@ -1,4 +1,4 @@
-use Rattle.std.proofs.Common.{◌≡◌, ◌<◌, ◌≤◌, length, arith, rules}
+use Rattle.std.proofs.Common.{◌≤◌, length, arith, rules}
 use Rattle.scales.specs.Grades.{GoodList}
 use Rattle.scales.specs.Listed.{front_is}
 use Rattle.scales.proofs.grade.Grade.new.Goals as goal

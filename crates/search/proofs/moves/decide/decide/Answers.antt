@@ -1,4 +1,4 @@
-use Rattle.std.proofs.Common.{◌≡◌, Some, Option, sym, ◌∙◌, subst}
+use Rattle.std.proofs.Common.{◌≡◌, sym, subst}
 use Rattle.blocks.specs.declared.bound.Bound.{Bound}
 use Rattle.blocks.specs.declared.status.Status.TheVariants.{Open as undecided}
 use Rattle.blocks.specs.Bounds.{Profile, Meets}

@@ -1,23 +1,18 @@
-use Rattle.std.proofs.Common.{◌≡◌, ℕ, ◌-◌, List, take, Some, None, Option, sym, refl, ap, ◌∙◌, subst, subst₂, arith}
+use Rattle.std.proofs.Common.{◌≡◌, ℕ, ◌-◌, List, take, Option, sym, refl, ap, ◌∙◌, subst, subst₂, arith}
 use Rattle.blocks.specs.declared.line.Line.{Line}
 use Rattle.blocks.specs.declared.line.Line.TheVariants.{Take}
 use Rattle.blocks.specs.declared.slot.Slot.{Slot}
-use Rattle.blocks.specs.declared.standing.Standing.{Standing}
 use Rattle.blocks.specs.Lines.{t_line}
 use Rattle.blocks.specs.Problems.{posed}
 use Rattle.blocks.specs.Ranges.{Ranges}
-use Rattle.blocks.specs.Sheets.{Sheet, block_at}
+use Rattle.blocks.specs.Sheets.{Sheet}
 use Rattle.blocks.specs.Sinks.{Step}
 use Rattle.blocks.specs.Slots.{slot_at}
 use Rattle.blocks.specs.Views.{ranges}
 use Rattle.search.specs.declared.analyse.Fell.{Fell}
 use Rattle.search.specs.declared.analyse.Fell.TheVariants.{Over, Before}
-use Rattle.search.specs.declared.course.Course.{Course}
 use Rattle.search.specs.declared.trail.Trail.{Trail}
-use Rattle.search.specs.declared.moves.Ended.{Ended}
 use Rattle.search.specs.Analyses.{Ready, Analysed}
-use Rattle.search.specs.Moves.{Moved, Keeps, Learnt}
-use Rattle.search.specs.Numbers.{numbered}
 use Rattle.search.specs.Tallies.{Feed, feed, fed}
 use Rattle.search.proofs.Looking.{read_here}
 use Rattle.blocks.proofs.Properness.{problem_proper}

@@ -1,4 +1,4 @@
-use Rattle.std.proofs.Common.{◌≡◌, ℕ, ◌+◌, length, Some, None, Option, sym, refl, ap, ◌∙◌, subst}
+use Rattle.std.proofs.Common.{◌≡◌, ℕ, ◌+◌, length, Option, sym, refl, ap, ◌∙◌, subst}
 use Rattle.blocks.specs.declared.bound.Bound.{Bound}
 use Rattle.blocks.specs.Bounds.{Profile, Meets}
 use Rattle.blocks.specs.Problems.{posed}

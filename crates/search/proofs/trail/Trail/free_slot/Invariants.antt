@@ -1,4 +1,4 @@
-use Rattle.std.proofs.Common.{◌≡◌, ℕ, ◌+◌, ◌<◌}
+use Rattle.std.proofs.Common.{ℕ, ◌+◌, ◌<◌}
 use Rattle.search.specs.Search.{IsReason, turn}
 use Rattle.search.specs.Trails.{trail_of}
 use Rattle.search.proofs.trail.Trail.free_slot.Given as goal

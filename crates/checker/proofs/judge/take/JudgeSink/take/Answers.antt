@@ -1,4 +1,4 @@
-use Rattle.std.proofs.Common.{◌≡◌, Ok, Err, refl, ◌∙◌}
+use Rattle.std.proofs.Common.{Ok, Err, ◌∙◌}
 use Rattle.checker.specs.Courts.{court_of}
 use Rattle.checker.specs.Hearing.{Takes}
 use Rattle.checker.proofs.Stepping.{just_takes, is_step}
