@@ -7,22 +7,20 @@
 # has to be proved first. Ends with status 1 where something is not as it must be.
 set -u
 top=$(cd "$(dirname "$0")/.." && pwd -P)
-kit=$(dirname "$(dirname "$(rt doc)")")
 work=$(mktemp -d) || exit 1
 trap 'rm -rf "$work"' EXIT
-cp -R "$top/crates" "$work/crates" || exit 1
 program=$work/crates/misuse/src/main.rt
 mkdir -p "$(dirname "$program")"
+for crate in "$top"/crates/*/; do
+    name=$(basename "$crate")
+    mkdir -p "$work/crates/$name"
+    for part in src specs proofs; do
+        [ ! -d "$crate$part" ] || cp -R "$crate$part" "$work/crates/$name/$part" || exit 1
+    done
+done
 
-# What the compiler says of the program, which is read with the sources of the crates and of the kit.
-compile() { # CRATE..
-    local libs=() name used crate
-    while IFS=: read -r name used; do
-        libs+=(--lib "$name:$(echo $used | tr ' ' ,)=$kit/$name/src/lib.rt")
-    done <"$kit/libs.txt"
-    for crate in "$@"; do libs+=(--lib "$crate=$work/crates/$crate/src/lib.rt"); done
-    "$kit/bin/rattle-print-mir" "$program" --crate-name misuse "${libs[@]}" 2>&1 >/dev/null
-}
+# Builds and runs the program, which proves nothing; what is said of it goes into the log.
+build() { (cd "$work/crates/misuse" && rt try) >"$work/log" 2>&1; }
 
 # One misuse; prints what is wrong with it, if anything.
 try_one() { # FILE
@@ -34,10 +32,11 @@ try_one() { # FILE
     { cat "$top/crates.txt"; echo "misuse: $crates"; } >"$work/crates.txt"
     # the marked line is emptied, so that the others keep their numbers
     sed "${line}s/.*//" "$1" >"$program"
-    (cd "$work" && rt try misuse) >"$work/log" 2>&1 || { echo "without its marked line it does not build and run"; cat "$work/log"; return; }
+    build || { echo "without its marked line it does not build and run"; cat "$work/log"; return; }
     cp "$1" "$program"
-    errors=$(compile $crates | grep -o '^[^ ]*: error[^:]*')
-    [ "$(sed 's/:[0-9]*: error/: error/' <<<"$errors")" = "$program:$line: error[$want]" ] || echo "with its marked line, line $line, the compiler says: ${errors:-nothing}"
+    ! build || { echo "with its marked line it builds"; return; }
+    errors=$(grep -o '^[^ ]*: error[^:]*' "$work/log" | sort -u)
+    [ "$(sed 's/:[0-9]*: error/: error/' <<<"$errors")" = "src/main.rt:$line: error[$want]" ] || { echo "with its marked line, line $line, the compiler says: ${errors:-nothing}"; cat "$work/log"; }
 }
 
 status=0

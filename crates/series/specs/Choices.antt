@@ -1,6 +1,6 @@
 -- Choices of one value for each setting: which of them meet a bound, a rule, and every one of some rules.
 use Rattle.std.specs.Prelude.{◌≡◌, ℕ, zero, suc, ◌⊎◌, List, [], ◌∷◌, slice_index}
-use Rattle.std.specs.List.{AllByRecursion as All}
+use Rattle.std.specs.List.{AllByRecursion as Each}
 use Rattle.scales.specs.declared.side.Side.TheVariants.{AtMost as most, AtLeast as least}
 use Rattle.scales.specs.Models.{ScaleModel}
 use Rattle.scales.specs.Choices.{Choice, OnScales, profile, ChoiceMeets}
@@ -20,7 +20,7 @@ ChoiceMeetsRule ms c [] = ⊥
 ChoiceMeetsRule ms c (β ∷ r) = MeetsBound ms c β ⊎ ChoiceMeetsRule ms c r
 
 abbrev pub MeetsEvery : (ms : List ScaleModel) → Choice ms → List Rule → Type 0
-MeetsEvery ms c rs = All (ChoiceMeetsRule ms c) rs
+MeetsEvery ms c rs = Each (ChoiceMeetsRule ms c) rs
 
 -- no choice of one value per setting meets every rule
 abbrev pub NoChoice : List ScaleModel → List Rule → Type 0
@@ -47,4 +47,4 @@ MadeOn ms β = MadeAt ms (setting β) (position β)
 
 -- every bound of every rule was
 abbrev pub AllMade : List ScaleModel → List Rule → Type 0
-AllMade ms rs = All (All (MadeOn ms)) rs
+AllMade ms rs = Each (Each (MadeOn ms)) rs

@@ -1,6 +1,6 @@
 -- What holds of every series of calls on a sheet.
 use Rattle.std.specs.Prelude.{◌≡◌, ℕ, ◌≤◌, ◌⊎◌, ◌↔◌, List, [], ◌∷◌, ◌++◌, length, Some, Err}
-use Rattle.std.specs.List.{flat_map, AllByRecursion as All, slice_get}
+use Rattle.std.specs.List.{flat_map, AllByRecursion as Each, slice_get}
 use Rattle.scales.specs.declared.refusal.Refusal.{Refusal}
 use Rattle.scales.specs.declared.refusal.Stop.TheVariants.{AreaTooSmall}
 use Rattle.scales.specs.Checks.{Check, check, Passes, Refuses}
@@ -93,7 +93,7 @@ pub record Right (ms : List ScaleModel) (rs : List Rule) (c : Call) (a : Answer)
   -- it is refused in just these cases
   pub refuses : (e : Refusal) → (a.reply ≡ refused e) ↔ RefusedWith (sheet_with (lasts ms) rs) c e
   -- each search that it carried out is right
-  pub searches : All (SearchRight ms) (searches_of rs c a)
+  pub searches : Each (SearchRight ms) (searches_of rs c a)
   pub replies : RepliesRightly ms rs c a.reply
 
 -- The sheet S holds exactly the rules rs, in order.
