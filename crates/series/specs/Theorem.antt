@@ -127,8 +127,8 @@ pub record SeriesStand (ms : List ScaleModel) : Type 0 where
   pub never : (rs : List Rule) → Passes (rules_checks (newly_closed (lasts ms)) rs) → (m : ℕ) (ls : List Line) → (after (sheet_with (lasts ms) rs) m ls).phase ≡ ended → AllMade ms rs → NoChoice ms rs
 
 -- Any series that led to the sheet S goes on by this call to the sheet T, the call is right, and T holds what stands then.
-abbrev pub Goes_on : List ScaleModel → Sheet → Call → Answer → Sheet → Type 0
-Goes_on ms S c a T = (h : History) → Series (lasts ms) h S → Series (lasts ms) (and h c a) T × Right ms (standing h) c a × Held ms (standing (and h c a)) T
+abbrev pub GoesOn : List ScaleModel → Sheet → Call → Answer → Sheet → Type 0
+GoesOn ms S c a T = (h : History) → Series (lasts ms) h S → Series (lasts ms) (and h c a) T × Right ms (standing h) c a × Held ms (standing (and h c a)) T
 
 -- What a call promises: the reply r to the call c leaves the area and the sheet T so, its sink was sent these lines, and any
 -- series that led to S goes on.
@@ -136,4 +136,4 @@ pub record Called {V : Type 0} (models : V → List ScaleModel) (S : Sheet) (c :
   pub sent : List Line
   pub hears : heard sent
   pub does : Does S c (answer r sent left) T
-  pub series : (s : V) → AllKeep (models s) → Goes_on (models s) S c (answer r sent left) T
+  pub series : (s : V) → AllKeep (models s) → GoesOn (models s) S c (answer r sent left) T

@@ -1,3 +1,5 @@
 pub mod Declaring
 pub mod Telling
 pub mod Posting
+pub mod Stops
+pub mod Judging

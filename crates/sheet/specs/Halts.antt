@@ -1,9 +1,8 @@
 -- A judge's halt, told in full.
-use Rattle.std.specs.Prelude.{◌≡◌, ℕ}
+use Rattle.std.specs.Prelude.{◌≡◌}
 use Rattle.scales.specs.declared.refusal.Refusal.{Refusal}
 use Rattle.scales.specs.declared.refusal.Stop.{Stop}
 use Rattle.scales.specs.Stops.{number, line_place}
-use Rattle.record.specs.declared.halt.Cause.TheVariants.{Shape, Sink}
 use Rattle.record.specs.declared.halt.Halt.{Halt}
 use Rattle.record.specs.Halts.{cause_number}
 

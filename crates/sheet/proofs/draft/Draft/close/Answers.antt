@@ -1,4 +1,4 @@
-use Rattle.std.proofs.Common.{◌≡◌, take, sym, ap, ◌∙◌, subst}
+use Rattle.std.proofs.Common.{take, sym, ap, ◌∙◌, subst}
 use Rattle.series.specs.Series.{closed, newly, Series}
 use Rattle.sheet.specs.Settings.{lasts_of}
 use Rattle.sheet.proofs.Declaring.{newly_of}
