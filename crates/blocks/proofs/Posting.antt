@@ -1,5 +1,5 @@
 -- One rule more behind the others.
-use Rattle.std.proofs.Common.{◌≡◌, ℕ, zero, suc, ◌+◌, ◌<◌, ◌≤◌, ◌≢◌, List, [], ◌∷◌, ◌++◌, length, get_or, take, set, Result, sym, refl, ap, ◌∙◌, subst, arith, below_more}
+use Rattle.std.proofs.Common.{◌≡◌, ℕ, zero, suc, ◌+◌, ◌<◌, ◌≤◌, ◌≢◌, List, [], ◌∷◌, ◌++◌, length, get_or, take, set, Result, sym, refl, ap, ◌∙◌, subst, ap₂, arith, below_more}
 use Rattle.std.proofs.lemmas.List.{length-map, length-take-le, get_or-take, get_or-set_same, get_or-set_other, take_more_set, map-append, map-set}
 use Rattle.scales.specs.declared.refusal.Refusal.{Refusal}
 use Rattle.scales.specs.Checks.{Passes}
@@ -11,7 +11,10 @@ use Rattle.blocks.specs.Ranges.{Ranges}
 use Rattle.blocks.specs.Sheets.{Sheet}
 use Rattle.blocks.specs.Rules.{Breakers, bound_checks, admit_checks, with_rule}
 use Rattle.blocks.specs.Views.{last_at, block_of, blocks, nowhere, high_of, sides_of, FitToStand}
-use Rattle.blocks.specs.Problems.{sheet_of, FitToPose, Admits}
+use Rattle.blocks.specs.declared.problem.Problem.{Problem}
+use Rattle.blocks.specs.declared.ruleset.RuleSet.{RuleSet}
+use Rattle.blocks.specs.Problems.{posed, sheet_of, FitToPose, Admits}
+use Rattle.blocks.specs.RuleSets.{sheet_in, PosesSet}
 use Rattle.blocks.proofs.Breaking.{breakers_only}
 
 pub blocks_take : (n : ℕ) (ss : List Standing) → blocks (take n ss) ≡ take n (blocks ss)
@@ -58,3 +61,7 @@ fit_to_pose l ss n h few within four =
 -- what is admitted over a problem is admitted over what the problem was posed of
 pub admitted_at : {l k : Lasts} {ss ts : List Standing} → l ≡ k → ss ≡ ts → (βs : List Bound) (r : Result Standing Refusal) → Admits l ss βs r → Admits k ts βs r
 admitted_at {l} {k} {ss} {ts} e d βs r a = subst (λ (x : Lasts). Admits x ts βs r) e (subst (λ (xs : List Standing). Admits l xs βs r) d a)
+
+-- the problem of a rule set means the same sheet
+pub same_sheet : (s : RuleSet) (p : Problem) → PosesSet s p → posed p ≡ sheet_in s
+same_sheet s p h = ap₂ sheet_of h.lasts h.rules

@@ -1,6 +1,6 @@
 -- The lines of the grounds: their letters, and the numbers in their columns.
 use Rattle.std.specs.Prelude.{ℕ, min}
-use Rattle.std.proofs.Common.{arith}
+use Rattle.std.proofs.Math.Nat.{min-le_right}
 use Rattle.blocks.specs.declared.line.Line.{Line}
 use Rattle.blocks.specs.declared.line.Line.TheVariants.{Take, Resolve, Keep, End}
 use Rattle.blocks.specs.declared.line.numbers.BlockNumber.{BlockNumber}
@@ -27,10 +27,10 @@ setting_column End = 0
 
 -- a block's number, stopping at 99,999, and a setting's, stopping at 999
 abbrev pub block_number : ℕ → BlockNumber
-block_number n = record { number = min n 99999; small = omega arith }
+block_number n = record { number = min n 99999; small = min-le_right n 99999 }
 
 abbrev pub setting_number : ℕ → SettingNumber
-setting_number n = record { number = min n 999; small = omega arith }
+setting_number n = record { number = min n 999; small = min-le_right n 999 }
 
 -- the four lines, by the numbers that they name
 abbrev pub t_line : ℕ → Line

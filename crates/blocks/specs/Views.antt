@@ -1,5 +1,5 @@
 -- What the values of the program mean.
-use Rattle.std.specs.Prelude.{◌≡◌, ℕ, ◌+◌, ◌<◌, ◌≤◌, ◌⊎◌, ◌↔◌, List, [], ◌∷◌, map, length, get_or, Some, None, Ok, Err, Option, Result, slice_index, slice_index_or, slice_set}
+use Rattle.std.specs.Prelude.{◌≡◌, ℕ, ◌+◌, ◌<◌, ◌≤◌, ◌⊎◌, ◌↔◌, List, [], ◌∷◌, map, length, Some, None, Ok, Err, Option, Result, slice_index, slice_index_or, slice_set}
 use Rattle.scales.specs.declared.refusal.Refusal.{Refusal}
 use Rattle.scales.specs.declared.refusal.Stop.TheVariants.{SettingsFull, NotResolvable}
 use Rattle.scales.specs.Stops.{no_place}
@@ -30,7 +30,7 @@ abbrev pub nowhere : Ranges
 nowhere = record { low = λ _. 0; high = λ _. 0 }
 
 abbrev pub high_of : List Standing → ℕ → ℕ → ℕ
-high_of ss i j = (get_or (blocks ss) i nowhere).high j
+high_of ss i j = (slice_index_or (blocks ss) i nowhere).high j
 
 -- how many bounds the block has
 abbrev pub sides : Lasts → Ranges → ℕ

@@ -3,12 +3,7 @@ use Rattle.std.proofs.Common.{◌≡◌, ℕ, ◌+◌, ◌<◌, true, List, ◌�
 use Rattle.std.proofs.lemmas.List.{drop_more}
 use Rattle.std.proofs.lemmas.Bool.{false≢true}
 use Rattle.scales.specs.declared.refusal.Refusal.{Refusal}
-use Rattle.blocks.specs.declared.lasts.Lasts.{Lasts}
 use Rattle.blocks.specs.declared.line.Line.{Line}
-use Rattle.blocks.specs.declared.problem.Problem.{Problem}
-use Rattle.blocks.specs.declared.ruleset.RuleSet.{RuleSet}
-use Rattle.blocks.specs.Problems.{posed, sheet_of}
-use Rattle.blocks.specs.RuleSets.{sheet_in, PosesSet}
 use Rattle.blocks.specs.Sheets.{Sheet}
 use Rattle.blocks.specs.Sinks.{next_of, state_after}
 use Rattle.checker.specs.Courts.{Court, ended, opened}
@@ -21,10 +16,6 @@ pub one_more : (lines : List Line) (i : ℕ) (l : Line) (c d end : Court) → i 
 one_more lines i l c d end h is e so_far =
     let next : l ∷ drop (i + 1) lines ≡ drop i lines = ap (λ (k : Line). k ∷ drop (i + 1) lines) is ∙ sym (drop_more lines i l h) in
     ap (λ (x : Court). state_after step x (drop (i + 1) lines)) e ∙ ap (state_after step c) next ∙ so_far
-
--- the problem of a rule set means the same sheet
-pub same_sheet : (s : RuleSet) (p : Problem) → PosesSet s p → posed p ≡ sheet_in s
-same_sheet s p h = ap (λ (l : Lasts). sheet_of l p.rules.now) h.lasts ∙ ap (sheet_of s.lasts) h.rules
 
 -- the state after these lines, of a judge that was opened so
 pub since_opening : {S T : Sheet} {c d : Court} (m : ℕ) (lines : List Line) → S ≡ T → c ≡ opened S m → d ≡ state_after step c lines → d ≡ after T m lines

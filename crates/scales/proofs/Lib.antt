@@ -1,3 +1,4 @@
 pub mod Checking
+pub mod Numbering
 pub mod Cuts
 pub mod Choosing

@@ -14,3 +14,4 @@ pub mod Listed
 pub mod Orders
 pub mod Floats
 pub mod WindowLaws
+pub mod WholeLaws

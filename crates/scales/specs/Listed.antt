@@ -83,3 +83,10 @@ module _ (xs : List ℕ) (n : ℕ) (within : n ≤ length xs) where
       (λ k d h.
       let m : k < n = omega (arith, front_length) in
       get_or_default (take n xs) k d 0 h ∙ front_at k m ∙ same k m ∙ get_or_default ys k 0 d (omega (arith, l)))
+
+-- a grade keeps the laws: its list is the first n of its bytes
+pub front_laws : (xs : List ℕ) (n : ℕ) → length xs ≡ 16 → 1 ≤ n → n ≤ 16 → Printing xs n → Different xs n
+    → ScaleLaws (Among (take n xs)) (Before (take n xs)) (first_at (take n xs)) (λ p. slice_index (take n xs) p) (length (take n xs) - 1)
+front_laws xs n whole one few printing different =
+    let within : n ≤ length xs = omega arith in
+    grade_laws (take n xs) (front_good xs n within one few printing different)

@@ -1,8 +1,7 @@
 ghost use Rattle.std.specs.Prelude.{◌≡◌, ℕ, ◌-◌, ◌<◌, ◌≤◌, length, take, MatchBool, ◌≢◌, slice_index};
 ghost use Rattle.scales.specs.Checks.{Outcome};
 ghost use Rattle.scales.specs.Grades.{Printing, Different, Among, Before, first_at, list_checks};
-ghost use Rattle.std.proofs.Common.{arith};
-ghost use Rattle.scales.specs.Listed.{grade_laws, front_good};
+ghost use Rattle.scales.specs.Listed.{front_laws};
 
 use crate::refusal::{Refusal, Stop};
 use crate::scale::Scale;
@@ -66,9 +65,7 @@ impl Scale for Grade {
 
     ghost top = { λ g. length (take g.len g.bytes) - 1 };
 
-    ghost keeps = { λ s.
-        let within : s.len ≤ length s.bytes = omega (arith, s.whole, s.few) in
-        grade_laws (take s.len s.bytes) (front_good s.bytes s.len within s.one s.few s.printing s.different) };
+    ghost keeps = { λ g. front_laws g.bytes g.len g.whole g.one g.few g.printing g.different };
 
     fn last(&self) -> u32 {
         (self.len - 1) as u32

@@ -1,5 +1,5 @@
 ghost use Rattle.scales.specs.Wholes.{OnWhole, EarlierWhole, place_whole, value_whole};
-ghost use Rattle.std.proofs.Common.{rules};
+ghost use Rattle.scales.specs.WholeLaws.{whole_laws};
 
 use crate::refusal::{Refusal, Stop};
 use crate::scale::Scale;
@@ -24,7 +24,7 @@ impl Scale for Whole {
 
     ghost top = { λ _. 2000000000 };
 
-    ghost keeps = { Prim.search rules };
+    ghost keeps = { λ _. whole_laws };
 
     fn last(&self) -> u32 {
         2_000_000_000

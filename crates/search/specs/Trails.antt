@@ -1,5 +1,5 @@
 -- The trail of the program, as the relation has it.
-use Rattle.std.specs.Prelude.{◌≡◌, ℕ, zero, suc, ◌<◌, List, [], ◌∷◌, get_or, slice_index_or}
+use Rattle.std.specs.Prelude.{◌≡◌, ℕ, zero, suc, ◌<◌, List, [], ◌∷◌, slice_index_or}
 use Rattle.blocks.specs.declared.bound.Bound.{Bound}
 use Rattle.blocks.specs.declared.bound.Bound.TheVariants.{AtMost}
 use Rattle.blocks.specs.Ranges.{end}
@@ -30,4 +30,4 @@ trail_of t = trail_below t.entries t.len
 
 -- each of the first n entries keeps the end that it narrowed
 abbrev pub KeepsEnds : (ℕ → ℕ) → List TrailEntry → ℕ → Type 0
-KeepsEnds last xs n = (k : ℕ) → k < n → (get_or xs k no_entry).end ≡ end (get_or xs k no_entry).bound (region last (trail_below xs k))
+KeepsEnds last xs n = (k : ℕ) → k < n → (slice_index_or xs k no_entry).end ≡ end (slice_index_or xs k no_entry).bound (region last (trail_below xs k))

@@ -25,7 +25,7 @@ use Rattle.checker.specs.Steps.{step}
 use Rattle.series.specs.Calls.{judge, answer, of_judge, Does, judges}
 use Rattle.series.specs.Judging.{Judgement, accepted, over, no_line, line_refused}
 use Rattle.sheet.specs.Halts.{Known, ToldInFull}
-use Rattle.sheet.proofs.Stops.{same_stop}
+use Rattle.scales.proofs.Numbering.{same_stop}
 
 -- lines that are all taken are counted
 taken_counted : (c : Court) (ls : List Line) → TakesAll step c ls → lines_taken c ls ≡ length ls

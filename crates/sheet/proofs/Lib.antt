@@ -1,5 +1,4 @@
 pub mod Declaring
 pub mod Telling
 pub mod Posting
-pub mod Stops
 pub mod Judging

@@ -1,11 +1,9 @@
--- A rule that is posted, and the problem of the rules that stand.
-use Rattle.std.proofs.Common.{◌≡◌, List, [], Ok, Err, Result, sym, ap, ap₂, subst}
+-- A rule that is posted.
+use Rattle.std.proofs.Common.{◌≡◌, List, [], Ok, Err, Result, sym, ap, subst}
 use Rattle.scales.specs.declared.refusal.Refusal.{Refusal}
 use Rattle.blocks.specs.declared.bound.Bound.{Bound}
 use Rattle.blocks.specs.declared.ruleset.RuleSet.{RuleSet}
-use Rattle.blocks.specs.declared.problem.Problem.{Problem}
-use Rattle.blocks.specs.Problems.{posed, sheet_of}
-use Rattle.blocks.specs.RuleSets.{sheet_in, PosesSet, Posted}
+use Rattle.blocks.specs.RuleSets.{sheet_in, Posted}
 use Rattle.series.specs.Calls.{post, posted, refused, answer, of_post, Does, posts, post_refused}
 
 pub posted_does : (before after : RuleSet) (r : List Bound) (x : Result (Unit {0}) Refusal) → Posted before r x after → Does (sheet_in before) (post r) (answer (of_post x) [] []) (sheet_in after)
@@ -16,7 +14,3 @@ posted_does before after r (Err e) p = subst (λ s. Does (sheet_in before) (post
 pub settings_stay : (before after : RuleSet) (r : List Bound) (x : Result (Unit {0}) Refusal) → Posted before r x after → after.lasts.count ≡ before.lasts.count
 settings_stay before after r (Ok u) p = ap (λ S. S.count) p.1
 settings_stay before after r (Err e) p = ap (λ s. s.lasts.count) p.1
-
--- the problem of a rule set means the same sheet
-pub same_sheet : (s : RuleSet) (p : Problem) → PosesSet s p → posed p ≡ sheet_in s
-same_sheet s p h = ap₂ sheet_of h.lasts h.rules

@@ -1,7 +1,8 @@
 use Rattle.std.proofs.Common.{length, is_ok, sym, ap, ◌∙◌}
 use Rattle.checker.specs.Courts.{court_of}
 use Rattle.checker.proofs.Soundness.{accepts_ended}
-use Rattle.checker_tests.proofs.Hearing.{same_sheet, since_opening, ends_too, both_ok}
+use Rattle.blocks.proofs.Posting.{same_sheet}
+use Rattle.checker_tests.proofs.Hearing.{since_opening, ends_too, both_ok}
 use Rattle.checker_tests.proofs.judged.Goals as goal
 
 pub returns : goal.returns

@@ -1,7 +1,7 @@
 use Rattle.std.proofs.Common.{sym, ap, ◌∙◌, arith}
 use Rattle.blocks.specs.Slots.{holdings}
 use Rattle.checker.specs.Courts.{court_of}
-use Rattle.sheet.proofs.Posting.{same_sheet}
+use Rattle.blocks.proofs.Posting.{same_sheet}
 use Rattle.sheet.proofs.Judging.{halts_known, found_judged, halted_judged}
 use Rattle.sheet.proofs.sheet.Sheet.judge.Goals as goal
 

@@ -6,7 +6,7 @@ use Rattle.search.specs.Solve.{Solved}
 use Rattle.series.specs.Calls.{solves}
 use Rattle.series.proofs.Accepting.{grounds_accepted}
 use Rattle.series.proofs.Hearing.{solved_solves}
-use Rattle.sheet.proofs.Posting.{same_sheet}
+use Rattle.blocks.proofs.Posting.{same_sheet}
 use Rattle.sheet.proofs.sheet.Sheet.solve.Goals as goal
 
 pub returns-clause-done : goal.returns-clause-done
