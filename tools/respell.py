@@ -11,7 +11,6 @@ import re
 import sys
 
 WORD = re.compile(r"[^\s(){}\[\];,.⌜⌝⟦⟧|`\"]+")
-HEAD = re.compile(r"^(?P<indent>\s*)(?:pub |abbrev |unfoldable |data |record )*(?P<names>[^\s(){}\[\];,.=|↦]+)(?P<rest>\s.*)?$")
 TYPE = re.compile(r"Type [012]\s*$")
 # a name that would fall together with another one of the same layer
 OWN_WORDS = {"Open-at": "TellsOpenAt", "No-slot-free": "OutOfSlots"}
