@@ -222,16 +222,16 @@ reason_mem (decided β ∷ t) k r = reason_mem t k r
 reason_mem (forced β i ∷ t) k (inl e) = inl (sym e)
 reason_mem (forced β i ∷ t) k (inr r) = inr (reason_mem t k r)
 
-abbrev slotNumbers : ℕ → List ℕ
-slotNumbers zero = []
-slotNumbers (suc m) = (100 + m) ∷ slotNumbers m
+abbrev all_slot_numbers : ℕ → List ℕ
+all_slot_numbers zero = []
+all_slot_numbers (suc m) = (100 + m) ∷ all_slot_numbers m
 
-slot_number : (m z : ℕ) → Mem z (slotNumbers m) → (j : ℕ) × (j < m) × (z ≡ 100 + j)
+slot_number : (m z : ℕ) → Mem z (all_slot_numbers m) → (j : ℕ) × (j < m) × (z ≡ 100 + j)
 slot_number zero z h = elim h [ ]
 slot_number (suc m) z (inl e) = (m, omega arith, e)
 slot_number (suc m) z (inr h) = let r = slot_number m z h in (r.0, omega arith, r.2)
 
-slots_distinct : (m : ℕ) → Distinct (slotNumbers m) × (length (slotNumbers m) ≡ m)
+slots_distinct : (m : ℕ) → Distinct (all_slot_numbers m) × (length (all_slot_numbers m) ≡ m)
 slots_distinct zero = (tt, refl)
 slots_distinct (suc m) = let r = slots_distinct m in ((λ h. let q = slot_number m (100 + m) h in omega arith, r.0), ap suc r.1)
 
@@ -239,7 +239,7 @@ slots_distinct (suc m) = let r = slots_distinct m in ((λ h. let q = slot_number
 pub slot_free : (m : ℕ) (t : List Entry) → ((j : ℕ) → j < m → IsReason t (100 + j)) → m ≤ length t
 slot_free m t h =
     let d = slots_distinct m in
-    let k = pigeon (slotNumbers m) (reasons t) d.0 (λ z p. let q = slot_number m z p in subst (λ x. Mem x (reasons t)) (sym q.2) (reason_mem t (100 + q.0) (h q.0 q.1))) in
+    let k = pigeon (all_slot_numbers m) (reasons t) d.0 (λ z p. let q = slot_number m z p in subst (λ x. Mem x (reasons t)) (sym q.2) (reason_mem t (100 + q.0) (h q.0 q.1))) in
     omega (arith, reasons_few t, d.1)
 
 module _ (S : Sheet) (pr : Proper S) (B : List Bound) (all : Lists S B) (m : ℕ) where

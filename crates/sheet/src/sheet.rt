@@ -11,7 +11,7 @@ pub mod tell;
 
 // A closed sheet: its settings' names, and their last positions with the rules that stand on them.
 //
-// R names the scales of its settings. Only contracts speak of them; a value of R is never needed.
+// R names the scales of its settings. No contract speaks of them yet; a value of R is never needed.
 pub struct Sheet<R> {
     pub(crate) names: [Name; 12],
     pub(crate) rules: RuleSet,
