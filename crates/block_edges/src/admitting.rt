@@ -16,7 +16,7 @@ fn how_many_bounds(rt: HostRuntime) -> Result<(), Fail> {
     // the fifth is told before the undeclared setting
     let five = [Bound::AtMost(9, 0); 5];
     assert_eq!(rt; refused(rules.post(&Rule { bounds: &five })), Some((4, 0)));
-    assert_eq!(rt; rules.count, 0);
+    assert_eq!(rt; rules.count(), 0);
     // four bounds on one setting, two on each side
     let four = [
         Bound::AtMost(0, 3),
@@ -77,7 +77,7 @@ fn forty_eight_rules_and_no_more(rt: HostRuntime) -> Result<(), Fail> {
     for _ in 0..48 {
         rules.post(&Rule { bounds: &taken })?;
     }
-    assert_eq!(rt; rules.count, 48);
+    assert_eq!(rt; rules.count(), 48);
     assert_eq!(rt;
         refused(rules.post(&Rule { bounds: &taken })),
         Some((21, 0))
@@ -87,7 +87,7 @@ fn forty_eight_rules_and_no_more(rt: HostRuntime) -> Result<(), Fail> {
         refused(rules.post(&Rule { bounds: &always })),
         Some((5, 0))
     );
-    assert_eq!(rt; rules.count, 48);
+    assert_eq!(rt; rules.count(), 48);
     for standing in rules.problem().rules() {
         assert!(rt; has(&standing.block, 0, 32, 63));
     }

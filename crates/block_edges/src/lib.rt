@@ -1,15 +1,14 @@
 // Tests of bounds, rules and blocks at their edges.
 //
-// The answers in the tests are worked out by hand from the definitions. The two functions here read
-// an answer for the tests.
+// The answers in the tests are worked out by hand from the definitions. The function here reads a
+// block for the tests, and `refused` of `scale_edges` reads an answer.
 #![tactic(auto)]
 
-ghost use Rattle.std.specs.Prelude.{◌≡◌, Some, None, Ok, Err, MatchBool};
-ghost use Rattle.scales.specs.Stops.{number};
+ghost use Rattle.std.specs.Prelude.{◌≡◌, MatchBool};
 ghost use Rattle.blocks.specs.Views.{ranges};
 
 use blocks::block::Block;
-use scales::refusal::Refusal;
+pub use scale_edges::refused;
 
 #[cfg(test)]
 mod admitting;
@@ -29,14 +28,4 @@ pub fn has(block: &Block, setting: u8, low: u32, high: u32) -> bool
     ensures { MatchBool result (((ranges block.now).low setting ≡ low) × ((ranges block.now).high setting ≡ high)) (((ranges block.now).low setting ≡ low) × ((ranges block.now).high setting ≡ high) → ⊥) }
 {
     block.low(setting) == low && block.high(setting) == high
-}
-
-// The number and the place of a refusal.
-pub fn refused<T: Drop>(answer: Result<T, Refusal>) -> Option<(u8, u32)>
-    ensures { elim answer [ Ok _ ↦ result ≡ None | Err e ↦ result ≡ Some (number e.stop, e.place) ] }
-{
-    match answer {
-        Ok(_) => None,
-        Err(refusal) => Some((refusal.stop.number(), refusal.place)),
-    }
 }

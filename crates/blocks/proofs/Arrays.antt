@@ -1,5 +1,5 @@
 -- A list after one write.
-use Rattle.std.proofs.Common.{ℕ, ◌<◌, ◌≤◌, leb, ◌≢◌, List, length, get_or, set, MatchBool, sym, subst, inl, inr, arith}
+use Rattle.std.proofs.Common.{ℕ, ◌+◌, ◌<◌, ◌≤◌, leb, ◌≢◌, List, length, get_or, set, MatchBool, sym, subst, inl, inr, arith, below_more}
 use Rattle.std.proofs.lemmas.List.{get_or-set_same, get_or-set_other}
 use Rattle.std.proofs.lemmas.Bool.{cases_eq, cases_lt, le-leb, lt-leb}
 
@@ -20,3 +20,10 @@ when_le a b P yes' no' = elim (cases_lt b a) [
   | inl l ↦ rw (lt-leb a b l) (λ p. let k = no' p in omega arith)
   | inr l ↦ rw (le-leb a b l) (yes' l)
 ]
+
+-- what holds of the first n and of what is written behind them holds of each after the write
+pub set_more : {X : Type 0} (P : ℕ → X → Type 0) (xs : List X) (n : ℕ) (v d : X) → n < length xs → ((k : ℕ) → k < n → P k (get_or xs k d)) → P n v
+    → (k : ℕ) → k < n + 1 → P k (get_or (set xs n v) k d)
+set_more P xs n v d h first here = below_more (λ k. P k (get_or (set xs n v) k d)) n
+    (λ k l. let ne : k ≢ n = omega arith in subst (P k) (sym (get_or-set_other xs n k v d ne)) (first k l))
+    (subst (P n) (sym (get_or-set_same xs n v d h)) here)

@@ -1,11 +1,12 @@
 -- The first open bound of a block, setting by setting.
-use Rattle.std.proofs.Common.{ℕ, ◌+◌, ◌-◌, ◌<◌, ◌≤◌, Some, None, subst, inl, inr, arith}
+use Rattle.std.proofs.Common.{ℕ, ◌+◌, ◌-◌, ◌<◌, ◌≤◌, Some, None, Option, MatchOption, subst, inl, inr, arith}
 use Rattle.std.proofs.lemmas.Bool.{cases_lt, cases_eq}
 use Rattle.blocks.specs.declared.bound.Bound.{Bound}
 use Rattle.blocks.specs.declared.bound.Bound.TheVariants.{AtMost, AtLeast}
 use Rattle.blocks.specs.Bounds.{rank}
 use Rattle.blocks.specs.Ranges.{Ranges, Stands}
 use Rattle.blocks.specs.Status.{BoundOf, Open, FirstOpen, TellsFirst, LowOpen, HighOpen, TellsOpenAt}
+use Rattle.blocks.proofs.Arrays.{each_of}
 use Rattle.blocks.proofs.Ranging.{open_at}
 
 module _ (g b : Ranges) where
@@ -41,9 +42,15 @@ module _ (g b : Ranges) where
           ]
           before (AtLeast s q) e o = elim (cases_lt s i) [ inl k ↦ absurd ((none s k).1 (high_at s q e o)) | inr k ↦ omega arith ]
 
-  pub first_none : ((i : ℕ) → NoneAt i) → TellsFirst g b None
+  first_none : ((i : ℕ) → NoneAt i) → TellsFirst g b None
   first_none none last sg sb = none_open last sg none
 
-  pub first_some : (i : ℕ) → ((k : ℕ) → k < i → NoneAt k) → (t : ℕ × ℕ × ℕ) → TellsOpenAt g b i (Some t) → TellsFirst g b (Some t)
+  first_some : (i : ℕ) → ((k : ℕ) → k < i → NoneAt k) → (t : ℕ × ℕ × ℕ) → TellsOpenAt g b i (Some t) → TellsFirst g b (Some t)
   first_some i none t (inl h) last sg sb = (AtMost i (b.low i - 1), h.1, first_low last sg i none h.0)
   first_some i none t (inr h) last sg sb = (AtLeast i (b.high i + 1), h.2, first_high last sg i none h.0 h.1)
+
+  -- the settings from n on have no open bound
+  pub first_of : (n : ℕ) → ((k : ℕ) → n ≤ k → NoneAt k) → (r : Option (ℕ × ℕ × ℕ))
+      → MatchOption r ((k : ℕ) → k < n → NoneAt k) (λ t. (i : ℕ) × TellsOpenAt g b i (Some t) × ((k : ℕ) → k < i → NoneAt k)) → TellsFirst g b r
+  first_of n past None h = first_none (each_of NoneAt n h past)
+  first_of n past (Some t) h = first_some h.0 h.2 t h.1

@@ -1,9 +1,11 @@
 pub mod Arrays
 pub mod Ranging
 pub mod Viewing
+pub mod Pairs
 pub mod Resolving
 pub mod Seeing
 pub mod First
+pub mod Finding
 pub mod Counting
 pub mod Admitting
 pub mod Numbered

@@ -1,5 +1,5 @@
 -- Bounds, and the profiles that meet them.
-use Rattle.std.specs.Prelude.{ℕ, ◌+◌, ◌*◌, ◌<◌, ◌≤◌, ◌↔◌, Some, None, Option}
+use Rattle.std.specs.Prelude.{◌≡◌, ℕ, zero, suc, ◌+◌, ◌*◌, ◌<◌, ◌≤◌, ◌↔◌, Some, None, Option}
 use Rattle.scales.specs.declared.side.Side.{Side}
 use Rattle.scales.specs.declared.side.Side.TheVariants.{AtMost as most, AtLeast as least}
 use Rattle.blocks.specs.declared.bound.Bound.{Bound}
@@ -32,6 +32,16 @@ side (AtLeast s p) = 1
 
 abbrev pub told : Bound → ℕ × ℕ × ℕ
 told β = (setting β, side β, position β)
+
+-- the bound that three numbers tell; every side but 0 is taken for 1
+abbrev pub bound_told : ℕ × ℕ × ℕ → Bound
+bound_told (s, zero, p) = AtMost s p
+bound_told (s, suc n, p) = AtLeast s p
+
+-- that bound, which is the one that the numbers were told of
+pub record TellsBack (t : ℕ × ℕ × ℕ) (γ : Bound) : Type 0 where
+  pub is : γ ≡ bound_told t
+  pub back : (β : Bound) → t ≡ told β → γ ≡ β
 
 -- the order of bounds: the lowest setting first, at most before at least
 abbrev pub rank : Bound → ℕ

@@ -9,5 +9,6 @@ pub mod Problems
 pub mod Lines
 pub mod Slots
 pub mod Sinks
+pub mod Meeting
 pub mod Examples
 pub mod RuleSets

@@ -3,8 +3,7 @@ use Rattle.std.specs.Prelude.{ℕ, min}
 use Rattle.std.proofs.Math.Nat.{min-le_right}
 use Rattle.blocks.specs.declared.line.Line.{Line}
 use Rattle.blocks.specs.declared.line.Line.TheVariants.{Take, Resolve, Keep, End}
-use Rattle.blocks.specs.declared.line.numbers.BlockNumber.{BlockNumber}
-use Rattle.blocks.specs.declared.line.numbers.SettingNumber.{SettingNumber}
+use Rattle.blocks.specs.declared.line.numbers.Number.{Number}
 
 -- the bytes t, r, k and e
 abbrev pub letter : Line → ℕ
@@ -25,12 +24,21 @@ setting_column (Resolve b s) = s.number
 setting_column (Keep b) = 0
 setting_column End = 0
 
--- a block's number, stopping at 99,999, and a setting's, stopping at 999
+abbrev pub BlockNumber : Type 0
+BlockNumber = Number 99999
+
+abbrev pub SettingNumber : Type 0
+SettingNumber = Number 999
+
+-- a number that stops at a limit: a block's at 99,999, and a setting's at 999
+abbrev pub stopping_at : (max : ℕ) → ℕ → Number max
+stopping_at max n = record { number = min n max; small = min-le_right n max }
+
 abbrev pub block_number : ℕ → BlockNumber
-block_number n = record { number = min n 99999; small = min-le_right n 99999 }
+block_number n = stopping_at 99999 n
 
 abbrev pub setting_number : ℕ → SettingNumber
-setting_number n = record { number = min n 999; small = min-le_right n 999 }
+setting_number n = stopping_at 999 n
 
 -- the four lines, by the numbers that they name
 abbrev pub t_line : ℕ → Line

@@ -1,5 +1,5 @@
 -- Problems: what the search and the judge's opening are given.
-use Rattle.std.specs.Prelude.{◌≡◌, ℕ, ◌<◌, ◌≤◌, List, length, Some, None, Option, Result, slice_index_or}
+use Rattle.std.specs.Prelude.{◌≡◌, ◌≤◌, List, length, Some, None, Option, Result}
 use Rattle.scales.specs.declared.refusal.Refusal.{Refusal}
 use Rattle.scales.specs.Checks.{Outcome}
 use Rattle.blocks.specs.declared.block.Block.{Block}
@@ -9,7 +9,7 @@ use Rattle.blocks.specs.declared.standing.Standing.{Standing}
 use Rattle.blocks.specs.declared.problem.Problem.{Problem}
 use Rattle.blocks.specs.Sheets.{Sheet}
 use Rattle.blocks.specs.Rules.{Breakable, Breakers, admit_checks}
-use Rattle.blocks.specs.Views.{ranges, last_at, blocks, block_of, nowhere, sides, FitToStand}
+use Rattle.blocks.specs.Views.{ranges, last_at, blocks, block_of, sides, FitToStand, FitToPose}
 
 -- the sheet of these settings and of what stands
 abbrev pub sheet_of : Lasts → List Standing → Sheet
@@ -17,11 +17,6 @@ sheet_of l ss = record { count = l.count; last = last_at l; rules = blocks ss }
 
 abbrev pub posed : Problem → Sheet
 posed p = sheet_of p.lasts.now p.rules.now
-
--- at most 48, and each fit to stand
-pub record FitToPose (l : Lasts) (ss : List Standing) : Type 0 where
-  pub few : length ss ≤ 48
-  pub each : (i : ℕ) → i < length ss → FitToStand l (slice_index_or (blocks ss) i nowhere)
 
 -- the problem of these settings and rules, or nothing where they are not fit
 abbrev pub Poses : Lasts → List Standing → Option Problem → Type 0

@@ -1,10 +1,12 @@
 -- What the values of the program mean.
 use Rattle.std.specs.Prelude.{◌≡◌, ℕ, ◌+◌, ◌<◌, ◌≤◌, ◌⊎◌, ◌↔◌, List, [], ◌∷◌, map, length, Some, None, Ok, Err, Option, Result, slice_index, slice_index_or, slice_set}
+use Rattle.std.proofs.Math.Nat.{le_refl}
 use Rattle.scales.specs.declared.refusal.Refusal.{Refusal}
 use Rattle.scales.specs.declared.refusal.Stop.TheVariants.{SettingsFull, NotResolvable}
 use Rattle.scales.specs.Stops.{no_place}
 use Rattle.scales.specs.Checks.{Check, check, Outcome}
 use Rattle.blocks.specs.declared.block.Block.{Block}
+use Rattle.blocks.specs.declared.block.interval.Interval.{Interval}
 use Rattle.blocks.specs.declared.lasts.Lasts.{Lasts}
 use Rattle.blocks.specs.declared.standing.Standing.{Standing}
 use Rattle.blocks.specs.declared.bound.Bound.{Bound}
@@ -12,8 +14,15 @@ use Rattle.blocks.specs.Bounds.{Profile, Meets}
 use Rattle.blocks.specs.Ranges.{Ranges, In, narrow, resolve, Resolvable}
 use Rattle.blocks.specs.Counts.{bounds_below}
 
+-- past the twelfth setting there is only position 0
+abbrev pub nought : Interval
+nought = record { low = 0; high = 0; ordered = le_refl 0 }
+
+abbrev pub interval_at : Block → ℕ → Interval
+interval_at b i = slice_index_or b.intervals i nought
+
 abbrev pub ranges : Block → Ranges
-ranges b = record { low = λ i. slice_index b.low i; high = λ i. slice_index b.high i }
+ranges b = record { low = λ i. (interval_at b i).low; high = λ i. (interval_at b i).high }
 
 abbrev pub last_at : Lasts → ℕ → ℕ
 last_at l i = slice_index l.last i
@@ -29,15 +38,9 @@ blocks ss = map block_of ss
 abbrev pub nowhere : Ranges
 nowhere = record { low = λ _. 0; high = λ _. 0 }
 
-abbrev pub high_of : List Standing → ℕ → ℕ → ℕ
-high_of ss i j = (slice_index_or (blocks ss) i nowhere).high j
-
 -- how many bounds the block has
 abbrev pub sides : Lasts → Ranges → ℕ
 sides l b = length (bounds_below (last_at l) b 12)
-
-abbrev pub sides_of : Lasts → List Standing → ℕ → ℕ
-sides_of l ss i = sides l (slice_index_or (blocks ss) i nowhere)
 
 -- one setting more, with this last position, behind the others
 abbrev pub Declared : ℕ → Lasts → Lasts → Result ℕ Refusal → Type 0
@@ -70,3 +73,8 @@ Resolves s a b r = Outcome (resolve_checks s a b) (λ c. (ranges c ≡ resolve s
 pub record FitToStand (l : Lasts) (b : Ranges) : Type 0 where
   pub within : (i : ℕ) → b.high i ≤ last_at l i
   pub four : sides l b ≤ 4
+
+-- what may stand together: at most 48, and each fit to stand
+pub record FitToPose (l : Lasts) (ss : List Standing) : Type 0 where
+  pub few : length ss ≤ 48
+  pub each : (i : ℕ) → i < length ss → FitToStand l (slice_index_or (blocks ss) i nowhere)

@@ -1,16 +1,17 @@
-ghost use Rattle.std.specs.Prelude.{◌≡◌, ℕ, ◌≤◌, length, slice_index};
+ghost use Rattle.std.specs.Prelude.{◌≡◌, length};
 
 pub mod ends;
 pub mod inside;
+pub mod interval;
 pub mod look;
 pub mod resolve;
 
-// A block: a low and a high position for each setting. One that is not declared has 0 and 0.
+use crate::block::interval::Interval;
+
+// A block: for each setting the positions from a low to a high one. One that is not declared has
+// only position 0.
 #[derive(Clone, Copy)]
 pub struct Block {
-    pub(crate) low: [u32; 12],
-    pub(crate) high: [u32; 12],
-    ghost lows: { length low ≡ 12 },
-    ghost highs: { length high ≡ 12 },
-    ghost ordered: { (i : ℕ) → slice_index low i ≤ slice_index high i },
+    pub(crate) intervals: [Interval; 12],
+    ghost twelve: { length intervals ≡ 12 },
 }

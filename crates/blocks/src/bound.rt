@@ -1,13 +1,20 @@
 ghost use Rattle.std.specs.Prelude.{◌≡◌};
 ghost use Rattle.scales.specs.Checks.{Outcome};
 ghost use Rattle.scales.specs.Answers.{on_scale};
-ghost use Rattle.blocks.specs.Bounds.{bound_at, setting, position, Opposite};
+ghost use Rattle.blocks.specs.Bounds.{bound_at, setting, position, Opposite, TellsBack};
 
 use scales::refusal::Refusal;
 use scales::scale::Scale;
 use scales::side::Side;
 
-// A bound keeps one setting to one side of a position: the setting's number, then the position.
+// The sides of a bound, as the numbers by which it is told. The project wants a bound told as plain
+// numbers: setting, side and position.
+pub(crate) const AT_MOST: u8 = 0;
+
+pub(crate) const AT_LEAST: u8 = 1;
+
+// A bound keeps one setting to one side of a position: the setting's number, then the position. Whoever
+// looks at a bound asks for its side first, so the sides are cases and no field.
 #[derive(Clone, Copy, PartialEq, Eq, Debug)]
 pub enum Bound {
     AtMost(u8, u32),
@@ -36,8 +43,7 @@ impl Bound {
         ensures { result ≡ setting self }
     {
         match self {
-            Bound::AtMost(setting, _) => setting,
-            Bound::AtLeast(setting, _) => setting,
+            Bound::AtMost(setting, _) | Bound::AtLeast(setting, _) => setting,
         }
     }
 
@@ -46,8 +52,7 @@ impl Bound {
         ensures { result ≡ position self }
     {
         match self {
-            Bound::AtMost(_, position) => position,
-            Bound::AtLeast(_, position) => position,
+            Bound::AtMost(_, position) | Bound::AtLeast(_, position) => position,
         }
     }
 
@@ -62,6 +67,19 @@ impl Bound {
             Bound::AtLeast(setting, position) => {
                 Some(Bound::AtMost(setting, position.checked_sub(1)?))
             }
+        }
+    }
+}
+
+// The bound that three numbers tell: the setting, the side and the position. Every side but 0 is taken
+// for "at least".
+impl From<(u8, u8, u32)> for Bound {
+    ghost from_gives = { TellsBack };
+
+    fn from((setting, side, position): (u8, u8, u32)) -> Bound {
+        match side {
+            AT_MOST => Bound::AtMost(setting, position),
+            _ => Bound::AtLeast(setting, position),
         }
     }
 }

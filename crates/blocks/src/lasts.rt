@@ -4,6 +4,9 @@ pub mod declare;
 pub mod holds;
 
 // The last position of each declared setting, in order. One that is not declared has 0.
+//
+// All twelve have a last, and so they are an array and not a row: a block is made and looked at over
+// all twelve.
 #[derive(Clone, Copy)]
 pub struct Lasts {
     pub(crate) last: [u32; 12],

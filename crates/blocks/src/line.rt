@@ -36,15 +36,13 @@ impl Line {
         ensures { result ≡ block_column self }
     {
         match self {
-            Line::Take(block) => block.number(),
-            Line::Resolve(block, _) => block.number(),
-            Line::Keep(block) => block.number(),
+            Line::Take(block) | Line::Resolve(block, _) | Line::Keep(block) => block.number(),
             Line::End => 0,
         }
     }
 
     // The number in the line's setting columns; 0 where the line has no setting.
-    pub fn setting(self) -> u16
+    pub fn setting(self) -> u32
         ensures { result ≡ setting_column self }
     {
         match self {

@@ -1,5 +1,4 @@
-ghost use Rattle.std.specs.Prelude.{ℕ, ◌<◌, ◌≤◌, length};
-ghost use Rattle.blocks.specs.Views.{last_at, high_of, sides_of};
+ghost use Rattle.blocks.specs.Views.{FitToPose};
 
 use crate::lasts::Lasts;
 use crate::standing::Standing;
@@ -13,7 +12,5 @@ pub mod pose;
 pub struct Problem<'a> {
     lasts: &'a Lasts,
     rules: &'a [Standing],
-    ghost few: { length rules.now ≤ 48 },
-    ghost within: { (i j : ℕ) → i < length rules.now → high_of rules.now i j ≤ last_at lasts.now j },
-    ghost four: { (i : ℕ) → i < length rules.now → sides_of lasts.now rules.now i ≤ 4 },
+    ghost fit: { FitToPose lasts.now rules.now },
 }

@@ -7,7 +7,11 @@ use crate::line::Line;
 // What takes the lines of the grounds.
 //
 // A sink means a state. For each state and line it takes the line, with the next state, or refuses
-// it by a number and keeps its state. Any caller may write one.
+// it by a number and keeps its state. Any caller may write one, with reasons that are not of this
+// product: so a refusal is a number and no enum.
+//
+// That the sink keeps what it was lent is said of each call, here and of all that pass a sink on: it
+// compares two moments, and no field of a sink can.
 pub trait Sink {
     // the states, the state of a sink, and what comes of a line in a state
     ghost Model: { Type 0 };

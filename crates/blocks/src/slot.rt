@@ -1,8 +1,4 @@
 use crate::block::Block;
 
-// A place in a work area for one block.
-#[derive(Clone, Copy)]
-pub enum Slot {
-    Empty,
-    Filled(Block),
-}
+// A place in a work area for one block: empty, or filled with it.
+pub type Slot = Option<Block>;

@@ -2,6 +2,7 @@
 use Rattle.std.proofs.Common.{◌≡◌, ℕ, zero, suc, ◌<◌, ◌≤◌, ◌⊎◌, List, [], ◌∷◌, ◌++◌, length, get_or, drop, Some, sym, refl, ap, ◌∙◌, subst, inl, inr, drop-cons}
 use Rattle.std.specs.List.{slice_get}
 use Rattle.std.proofs.lemmas.List.{drop_all}
+use Rattle.std.proofs.lemmas.Option.{none-some, same_Some}
 use Rattle.scales.specs.declared.refusal.Refusal.{Refusal}
 use Rattle.scales.specs.Checks.{Check, Passes, Refuses}
 use Rattle.scales.proofs.Checking.{both_pass, first_refuses, second_refuses}
@@ -17,8 +18,6 @@ use Rattle.blocks.specs.Sheets.{Sheet, Breaks}
 use Rattle.blocks.specs.Views.{last_at}
 use Rattle.blocks.proofs.Breaking.{block_breaks}
 use Rattle.checker.specs.Openings.{MeetsAll, NeverAccepts, Gathered}
-use Rattle.checker.proofs.Asking.{same_some}
-use Rattle.checker.proofs.Stepping.{none_some}
 use Rattle.blocks.proofs.Properness.{set_proper}
 use Rattle.checker.proofs.Soundness.{judges_rightly}
 
@@ -61,7 +60,7 @@ module _ (S : Sheet) (rules : List (List Bound)) (i : ℕ) (T : Sheet) (on : Goi
 
 -- a profile that meets these rules breaks none of them
 behind_or_last : (bs : List Ranges) (a : Ranges) (i : ℕ) (b : Ranges) → slice_get (bs ++ a ∷ []) i ≡ Some b → (slice_get bs i ≡ Some b) ⊎ (a ≡ b)
-behind_or_last [] a zero b e = inr (same_some e)
+behind_or_last [] a zero b e = inr (same_Some _ _ e)
 behind_or_last [] a (suc i) b e = inl e
 behind_or_last (c ∷ bs) a zero b e = inl e
 behind_or_last (c ∷ bs) a (suc i) b e = behind_or_last bs a i b e
@@ -90,4 +89,4 @@ gathered l rules place is = record { stand = is; never_accepts = never }
     never (x, w, m) slots ls ends =
         let k = (judges_rightly (sheet_in place) (set_proper place) slots ls).never_wrong ends x (subst (λ (f : ℕ → ℕ). In (everything f) x) (sym last) w) in
         let b = breaks_earlier rules (sheet_of l []) x w m (subst (λ (S : Sheet). Breaks S x) is k) in
-        none_some b.2
+        none-some b.1 b.2

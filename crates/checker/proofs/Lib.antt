@@ -1,4 +1,3 @@
-pub mod Looking
 pub mod Asking
 pub mod Deciding
 pub mod Stepping

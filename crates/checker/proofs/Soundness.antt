@@ -2,6 +2,7 @@
 use Rattle.std.proofs.Common.{◌≡◌, ℕ, zero, suc, ◌+◌, ◌-◌, ◌≤◌, min, Bool, true, false, cond, ltb, ◌⊎◌, List, [], ◌∷◌, set, replicate, is_ok, Some, None, Ok, Err, Option, Result, sym, refl, ap, ◌∙◌, subst, inl, inr, ⊎_elim, arith}
 use Rattle.std.specs.List.{slice_get}
 use Rattle.std.proofs.lemmas.Bool.{false≢true}
+use Rattle.std.proofs.lemmas.Option.{none-some, same_Some}
 use Rattle.scales.specs.declared.refusal.Refusal.{Refusal}
 use Rattle.scales.specs.Checks.{Passes, Outcome}
 use Rattle.blocks.specs.declared.line.Line.{Line}
@@ -19,8 +20,8 @@ use Rattle.checker.specs.Courts.{Phase, idle, working, ended, Court, opened, blo
 use Rattle.checker.specs.Hearing.{line_checks, onward, Leads, Takes}
 use Rattle.checker.specs.Steps.{step}
 use Rattle.checker.specs.Findings.{Impossible, after, one_if_taken, lines_taken, JudgesRightly, FoundRightly}
-use Rattle.checker.proofs.Asking.{same_work, same_some}
-use Rattle.checker.proofs.Stepping.{RealCourt, none_some, step_lawful, just_takes}
+use Rattle.checker.proofs.Asking.{same_work}
+use Rattle.checker.proofs.Stepping.{RealCourt, step_lawful, just_takes}
 
 -- a block that exists, and whose profiles all break a rule
 pub record Sound (S : Sheet) (b : Ranges) : Type 0 where
@@ -59,19 +60,6 @@ fair_real c proper fair = record {
     real : (b : Ranges) → Sound c.sheet b → Real b
     real b s = record { ordered = λ i. (s.stands i).0; twelve = λ i h. omega (arith, (s.stands i).1, beyond i h) }
 
--- the phases are apart
-idle_ended : idle ≡ ended → ⊥
-idle_ended e = let z : ◌≡◌ {A = ℕ} 0 1 = cc in omega arith
-
-idle_working : {w : Ranges} → idle ≡ working w → ⊥
-idle_working e = let z : ◌≡◌ {A = ℕ} 0 1 = cc in omega arith
-
-ended_working : {w : Ranges} → ended ≡ working w → ⊥
-ended_working e = let z : ◌≡◌ {A = ℕ} 0 1 = cc in omega arith
-
-working_ended : {w : Ranges} → working w ≡ ended → ⊥
-working_ended e = let z : ◌≡◌ {A = ℕ} 0 1 = cc in omega arith
-
 -- only a working judge hears an end
 ends_working : (p : Phase) → allows (stage p) E ≡ true → (w : Ranges) × (p ≡ working w)
 ends_working idle e = absurd (false≢true e)
@@ -81,7 +69,7 @@ ends_working ended e = absurd (false≢true e)
 -- what a slot holds after one was written
 slot_set : (ss : List (Option Ranges)) (j i : ℕ) (w b : Ranges) → joined (slice_get (set ss j (Some w)) i) ≡ Some b → (w ≡ b) ⊎ (joined (slice_get ss i) ≡ Some b)
 slot_set [] j i w b e = inr e
-slot_set (s ∷ ss) zero zero w b e = inl (same_some e)
+slot_set (s ∷ ss) zero zero w b e = inl (same_Some _ _ e)
 slot_set (s ∷ ss) zero (suc i) w b e = inr e
 slot_set (s ∷ ss) (suc j) zero w b e = inr e
 slot_set (s ∷ ss) (suc j) (suc i) w b e = slot_set ss j i w b e
@@ -92,22 +80,22 @@ module _ (c : Court) (fair : Fair c) where
     rules = fair.rules;
     slots = fair.slots;
     work = λ v e. subst (Sound c.sheet) (same_work e) s;
-    end = λ e. absurd (working_ended e);
+    end = λ e. absurd (cc);
   }
 
   fair_kept : (w : Ranges) (j : ℕ) → Sound c.sheet w → Fair (onward c idle (set c.slots j (Some w)))
   fair_kept w j s = record {
     rules = fair.rules;
     slots = λ i b e. ⊎_elim (λ q. subst (Sound c.sheet) q s) (fair.slots i b) (slot_set c.slots j i w b e);
-    work = λ v e. absurd (idle_working e);
-    end = λ e. absurd (idle_ended e);
+    work = λ v e. absurd (cc);
+    end = λ e. absurd (cc);
   }
 
   fair_ended : (w : Ranges) → Sound c.sheet w → Inside (everything c.sheet.last) w → Fair (onward c ended c.slots)
   fair_ended w s all = record {
     rules = fair.rules;
     slots = fair.slots;
-    work = λ v e. absurd (ended_working e);
+    work = λ v e. absurd (cc);
     end = λ e x h. s.breaks x (λ i. let p = h i in let q = all i in omega arith);
   }
 
@@ -165,8 +153,8 @@ module _ (S : Sheet) (proper : Proper S) where
 
   -- nothing is held at first
   none_held : (m j : ℕ) (b : Ranges) → joined (slice_get (replicate m None) j) ≡ Some b → ⊥
-  none_held zero j b e = none_some e
-  none_held (suc m) zero b e = none_some e
+  none_held zero j b e = none-some b e
+  none_held (suc m) zero b e = none-some b e
   none_held (suc m) (suc j) b e = none_held m j b e
 
   opened_going : (m : ℕ) → Going S 0 (opened S m)
@@ -175,8 +163,8 @@ module _ (S : Sheet) (proper : Proper S) where
     fair = record {
       rules = λ i b e. record { stands = proper.stand i b e; breaks = λ x h. (i, b, e, h) };
       slots = λ j b e. absurd (none_held m j b e);
-      work = λ w e. absurd (idle_working e);
-      end = λ e. absurd (idle_ended e);
+      work = λ w e. absurd (cc);
+      end = λ e. absurd (cc);
     };
     line = refl;
   }

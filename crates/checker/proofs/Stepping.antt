@@ -1,7 +1,8 @@
 -- Each line's outcome is the one of its checks and its effect, and no other.
-use Rattle.std.proofs.Common.{◌≡◌, ℕ, ◌+◌, ◌-◌, ◌≤◌, Bool, true, false, ◌&&◌, ltb, leb, length, set, Some, None, Ok, Err, Decides, Option, Result, sym, refl, ap, ◌∙◌, subst, inl, inr, arith}
+use Rattle.std.proofs.Common.{◌≡◌, ℕ, ◌+◌, ◌-◌, ◌≤◌, Bool, true, false, ◌&&◌, ltb, leb, length, set, Some, None, Ok, Err, IsErrAnd, Decides, MatchResult, Option, Result, sym, refl, ap, ◌∙◌, subst, inl, inr, arith}
 use Rattle.std.proofs.lemmas.Bool.{both_ways, leb-true, le-leb}
 use Rattle.std.proofs.lemmas.Bool.Decides.{Decides-and, Decides-ltb, not_from_Decides}
+use Rattle.std.proofs.lemmas.Option.{none-some, same_Some}
 use Rattle.scales.specs.declared.refusal.Refusal.{Refusal}
 use Rattle.scales.specs.declared.refusal.Stop.{Stop}
 use Rattle.scales.specs.declared.refusal.Stop.TheVariants.{NotAllowed, UnknownBlock, Undeclared, NotResolvable, NotEverything}
@@ -10,16 +11,15 @@ use Rattle.scales.specs.Checks.{Refuses}
 use Rattle.scales.proofs.Checking.{not_both, one_refusal}
 use Rattle.blocks.specs.declared.line.Line.{Line}
 use Rattle.blocks.specs.declared.line.Line.TheVariants.{Take, Resolve, Keep, End}
-use Rattle.blocks.specs.declared.line.numbers.BlockNumber.{BlockNumber}
-use Rattle.blocks.specs.declared.line.numbers.SettingNumber.{SettingNumber}
+use Rattle.blocks.specs.Lines.{BlockNumber, SettingNumber}
 use Rattle.blocks.specs.Ranges.{Ranges, everything, Inside, resolve, Resolvable}
 use Rattle.blocks.specs.Sinks.{Step, taken, refused, result_of, next_of}
 use Rattle.blocks.specs.Views.{Real}
 use Rattle.checker.specs.Table.{allows, letter_of}
 use Rattle.checker.specs.Courts.{Phase, idle, working, ended, Court, block_in, stage}
-use Rattle.checker.specs.Hearing.{Allowed, Known, Joins, line_checks, onward, Leads, Takes, JustTakes}
+use Rattle.checker.specs.Hearing.{Allowed, Known, Joins, line_checks, onward, Leads, Hears, Takes, JustTakes}
 use Rattle.checker.specs.Steps.{resolvable, whole, where_true, where_known, step_in, step}
-use Rattle.checker.proofs.Asking.{same_work, same_some}
+use Rattle.checker.proofs.Asking.{same_work}
 use Rattle.checker.proofs.Deciding.{resolvable_decides, whole_decides}
 
 -- a state whose blocks are real, as those of every judge are
@@ -27,9 +27,6 @@ pub record RealCourt (c : Court) : Type 0 where
   pub beyond : (i : ℕ) → 12 ≤ i → c.sheet.last i ≡ 0
   pub blocks : (k : ℕ) (b : Ranges) → block_in c k ≡ Some b → Real b
   pub work : (w : Ranges) → c.phase ≡ working w → Real w
-
-pub none_some : {b : Ranges} → None ≡ Some b → ⊥
-none_some e = let z : ◌≡◌ {A = ℕ} 0 1 = cc in omega arith
 
 module _ (c : Court) where
   -- the outcome of a step
@@ -46,7 +43,7 @@ module _ (c : Court) where
   not_allowed p l is e = refuse l NotAllowed (inl (both_ways _ (may p l is e), refl))
 
   law_t : (k : BlockNumber) → c.phase ≡ idle → (o : Option Ranges) → block_in c k.number ≡ o → Lawful (Take k) (where_known o (λ b. taken (onward c (working b) c.slots)))
-  law_t k is None e = refuse (Take k) UnknownBlock (inr (may idle (Take k) is refl, inl ((λ h. none_some (sym e ∙ h.1)), refl)))
+  law_t k is None e = refuse (Take k) UnknownBlock (inr (may idle (Take k) is refl, inl ((λ h. none-some h.0 (sym e ∙ h.1)), refl)))
   law_t k is (Some b) e = ((may idle (Take k) is refl, ((b, e), (tt, (tt, (tt, tt))))), (b, e, refl))
 
   module _ (real : RealCourt c) where
@@ -61,7 +58,7 @@ module _ (c : Court) where
         decides = resolvable_decides s.number w b (real.work w is) (real.blocks k.number b e)
 
         joins : Resolvable s.number w b → Joins c (Resolve k s)
-        joins r v a p q = subst (λ (x : Ranges). Resolvable s.number x a) (same_work (sym is ∙ p)) (subst (λ (x : Ranges). Resolvable s.number w x) (same_some (sym e ∙ q)) r)
+        joins r v a p q = subst (λ (x : Ranges). Resolvable s.number x a) (same_work (sym is ∙ p)) (subst (λ (x : Ranges). Resolvable s.number w x) (same_Some _ _ (sym e ∙ q)) r)
 
         go : (t u : Bool) → ltb s.number c.sheet.count ≡ t → resolvable s.number w b ≡ u
             → Lawful (Resolve k s) (where_true t Undeclared (where_true u NotResolvable (taken (onward c (working (resolve s.number w b)) c.slots))))
@@ -75,7 +72,7 @@ module _ (c : Court) where
 
     law_r_known : (k : BlockNumber) (s : SettingNumber) (w : Ranges) → c.phase ≡ working w → (o : Option Ranges) → block_in c k.number ≡ o
         → Lawful (Resolve k s) (where_known o (λ b. where_true (ltb s.number c.sheet.count) Undeclared (where_true (resolvable s.number w b) NotResolvable (taken (onward c (working (resolve s.number w b)) c.slots)))))
-    law_r_known k s w is None e = refuse (Resolve k s) UnknownBlock (inr (may (working w) (Resolve k s) is refl, inl ((λ h. none_some (sym e ∙ h.1)), refl)))
+    law_r_known k s w is None e = refuse (Resolve k s) UnknownBlock (inr (may (working w) (Resolve k s) is refl, inl ((λ h. none-some h.0 (sym e ∙ h.1)), refl)))
     law_r_known k s w is (Some b) e = law_r k s w b is e (ltb s.number c.sheet.count) (resolvable s.number w b) refl refl
 
     law_k : (k : BlockNumber) (w : Ranges) → c.phase ≡ working w → (t : Bool) → (leb 100 k.number && ltb k.number (100 + length c.slots)) ≡ t
@@ -118,17 +115,9 @@ module _ (c : Court) where
 
 -- a line leads to one state
 one_leading : (c : Court) (l : Line) (d e : Court) → Leads c l d → Leads c l e → d ≡ e
-one_leading c (Take k) d e p q = p.2 ∙ ap (λ (b : Ranges). onward c (working b) c.slots) (same_some (sym p.1 ∙ q.1)) ∙ sym q.2
-one_leading c (Resolve k s) d e (w, b, pw, pb, pd) (v, a, qw, qb, qe) =
-    pd
-    ∙ ap (λ (x : Ranges). onward c (working (resolve s.number x b)) c.slots) (same_work (sym pw ∙ qw))
-    ∙ ap (λ (x : Ranges). onward c (working (resolve s.number v x)) c.slots) (same_some (sym pb ∙ qb))
-    ∙ sym qe
-one_leading c (Keep k) d e (w, j, pw, pj, pd) (v, i, qw, qi, qe) =
-    pd
-    ∙ ap (λ (x : Ranges). onward c idle (set c.slots j (Some x))) (same_work (sym pw ∙ qw))
-    ∙ ap (λ (n : ℕ). onward c idle (set c.slots n (Some v))) (omega arith)
-    ∙ sym qe
+one_leading c (Take k) d e p q = cc
+one_leading c (Resolve k s) d e p q = cc
+one_leading c (Keep k) d e (w, j, pw, pj, pd) (v, i, qw, qi, qe) = let same : j ≡ i = omega arith in cc
 one_leading c End d e p q = p ∙ sym q
 
 -- a line has one outcome
@@ -140,6 +129,13 @@ one_taking c l (Err n) (Err m) d e p q = (ap Err (p.1 ∙ ap (λ (f : Refusal). 
 
 pub just_takes : (c : Court) (l : Line) (r : Result (Unit {0}) ℕ) (d : Court) → Takes c l r d → JustTakes c l r d
 just_takes c l r d t = record { takes = t; only = λ s e u. one_taking c l s r e d u t }
+
+-- a refusal that is heard in full, and told by its number
+pub told_by_number : (c : Court) (l : Line) {Q : Refusal → ℕ → Type 0} (h : Result (Unit {0}) Refusal) (r : Result (Unit {0}) ℕ) (d : Court) → Hears c l h d
+    → ((e : Refusal) (n : ℕ) → Q e n → n ≡ number e.stop) → MatchResult h (λ u. r ≡ Ok u) (λ e. IsErrAnd r (Q e)) → Takes c l r d
+told_by_number c l (Ok u) r d h q m = rw m h
+told_by_number c l (Err e) (Ok u) d h q m = absurd m
+told_by_number c l (Err e) (Err n) d h q m = (e, q e n m, h)
 
 -- what comes of a line by its checks is the step
 pub is_step : (c : Court) → RealCourt c → (l : Line) (r : Result (Unit {0}) ℕ) (d : Court) → Takes c l r d → (r ≡ result_of (step c l)) × (d ≡ next_of c (step c l))

@@ -2,17 +2,12 @@
 use Rattle.std.specs.Prelude.{◌≡◌, ℕ, suc, ◌+◌, min, true, List, [], ◌∷◌, is_ok, Result}
 use Rattle.scales.specs.declared.refusal.Refusal.{Refusal}
 use Rattle.blocks.specs.declared.line.Line.{Line}
-use Rattle.blocks.specs.Bounds.{Profile}
-use Rattle.blocks.specs.Ranges.{everything, In}
-use Rattle.blocks.specs.Sheets.{Sheet, Proper, Breaks}
+pub use Rattle.blocks.specs.Meeting.{Impossible}
+use Rattle.blocks.specs.Sheets.{Sheet, Proper}
 use Rattle.blocks.specs.Sinks.{Step, taken, refused, result_of, next_of, state_after}
 use Rattle.checker.specs.Courts.{Court, ended, opened}
 use Rattle.checker.specs.Hearing.{JustTakes}
 use Rattle.checker.specs.Steps.{step}
-
--- every profile breaks a rule
-abbrev pub Impossible : Sheet → Type 0
-Impossible S = (x : Profile) → In (everything S.last) x → Breaks S x
 
 -- the state of a judge that was opened on S with m slots and then sent these lines, refused ones among them
 abbrev pub after : Sheet → ℕ → List Line → Court

@@ -1,4 +1,4 @@
-ghost use Rattle.std.specs.Prelude.{◌≡◌, []};
+ghost use Rattle.std.specs.Prelude.{[]};
 ghost use Rattle.scales.specs.Checks.{Outcome};
 ghost use Rattle.blocks.specs.Problems.{sheet_of};
 ghost use Rattle.blocks.specs.Rules.{rules_checks};
@@ -25,7 +25,6 @@ fn gathered(lasts: &Lasts, rules: &[Rule]) -> Result<RuleSet, Refusal>
 pub fn open(lasts: &Lasts, rules: &[Rule], place: &mut RuleSet) -> Result<(), Refusal>
     ensures { Opens lasts.now (by_bounds rules.now) place.old result place.new }
 {
-    let set = gathered(lasts, rules)?;
-    *place = set;
+    *place = gathered(lasts, rules)?;
     Ok(())
 }

@@ -12,12 +12,12 @@ pub enum State {
     Ended,
 }
 
-impl State {
-    // Its row of the table.
-    pub fn stage(self) -> Stage
-        ensures { result ≡ stage (phase_of self) }
-    {
-        match self {
+// Its row of the table.
+impl From<State> for Stage {
+    ghost from_gives = { λ s row. row ≡ stage (phase_of s) };
+
+    fn from(state: State) -> Stage {
+        match state {
             State::Idle => Stage::Idle,
             State::Working(_) => Stage::Working,
             State::Ended => Stage::Ended,

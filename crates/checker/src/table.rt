@@ -26,7 +26,8 @@ struct Row {
     allowed: [bool; 4],
 }
 
-// Idle takes t; working takes r, k and e; ended takes none.
+// Idle takes t; working takes r, k and e; ended takes none. The project wants the judge's table as a
+// const array of rows, indexed by the numbers of stage and letter.
 const TABLE: [Row; 3] = [
     Row {
         allowed: [true, false, false, false],
@@ -39,11 +40,11 @@ const TABLE: [Row; 3] = [
     },
 ];
 
-impl Letter {
-    // The letter of a line.
-    pub fn of(line: Line) -> Letter
-        ensures { result ≡ letter_of line }
-    {
+// The letter of a line.
+impl From<Line> for Letter {
+    ghost from_gives = { λ line letter. letter ≡ letter_of line };
+
+    fn from(line: Line) -> Letter {
         match line {
             Line::Take(_) => Letter::T,
             Line::Resolve(_, _) => Letter::R,

@@ -9,33 +9,28 @@ use blocks::sink::Sink;
 use blocks::slot::Slot;
 use checker::judge::Judge;
 use checker::open::open;
-use scales::refusal::Refusal;
+use scale_edges::refused;
 use std::process::Abort;
 use std::test::Fail;
-
-// The number and the place of a refusal, or two noughts.
-fn told(answer: Result<(), Refusal>) -> (u8, u32) {
-    match answer {
-        Ok(()) => (0, 0),
-        Err(refusal) => (refusal.stop.number(), refusal.place),
-    }
-}
 
 // Each line is answered by this number, 0 where it is taken, before and when it is sent.
 fn answered(rt: &impl Abort, judge: &mut Judge, lines: &[(Line, u8)]) -> Result<(), Fail> {
     for (line, number) in lines {
-        assert_eq!(rt; told(judge.check(*line)).0, *number, "{line:?}");
-        let sent = match judge.take(*line) {
-            Ok(()) => 0,
-            Err(number) => number,
-        };
+        let asked = refused(judge.check(*line)).map_or(0, |(number, _)| number);
+        assert_eq!(rt; asked, *number, "{line:?}");
+        let sent = judge.take(*line).err().unwrap_or(0);
         assert_eq!(rt; sent, u32::from(*number), "{line:?}");
     }
     Ok(())
 }
 
-// The four rules before a judge with this area, and its finding once the lines are answered so.
-fn found(rt: &impl Abort, area: &mut [Slot], lines: &[(Line, u8)]) -> Result<(u8, u32), Fail> {
+// The four rules before a judge with this area, and the refusal that it finds once the lines are
+// answered so.
+fn found(
+    rt: &impl Abort,
+    area: &mut [Slot],
+    lines: &[(Line, u8)],
+) -> Result<Option<(u8, u32)>, Fail> {
     let lasts = two_settings()?;
     let mut place = RuleSet::new(lasts);
     open(&lasts, &four_rules(), &mut place)?;
@@ -43,20 +38,17 @@ fn found(rt: &impl Abort, area: &mut [Slot], lines: &[(Line, u8)]) -> Result<(u8
     let seen = answered(rt, &mut judge, lines);
     let found = judge.finding();
     seen?;
-    Ok(told(found))
+    Ok(refused(found))
 }
 
 // The low ends of x and y in a slot.
 fn lows(slot: Slot) -> Option<(u32, u32)> {
-    match slot {
-        Slot::Empty => None,
-        Slot::Filled(block) => Some((block.low(0), block.low(1))),
-    }
+    slot.map(|block| (block.low(0), block.low(1)))
 }
 
 #[test]
 fn blocks_that_are_not_there(rt: HostRuntime) -> Result<(), Fail> {
-    let mut area = [Slot::Empty; 2];
+    let mut area = [None; 2];
     let first = [
         (t(4), 9),
         (t(47), 9),
@@ -67,7 +59,7 @@ fn blocks_that_are_not_there(rt: HostRuntime) -> Result<(), Fail> {
         (t(99_999), 9),
         (t(3), 0),
     ];
-    assert_eq!(rt; found(&rt, &mut area, &first)?, (26, 2));
+    assert_eq!(rt; found(&rt, &mut area, &first)?, Some((26, 2)));
     let then = [
         (t(3), 0),
         (r(48, 0), 9),
@@ -79,7 +71,7 @@ fn blocks_that_are_not_there(rt: HostRuntime) -> Result<(), Fail> {
         (t(100), 9),
         (t(101), 0),
     ];
-    assert_eq!(rt; found(&rt, &mut area, &then)?, (26, 4));
+    assert_eq!(rt; found(&rt, &mut area, &then)?, Some((26, 4)));
     Ok(())
 }
 
@@ -87,16 +79,14 @@ fn blocks_that_are_not_there(rt: HostRuntime) -> Result<(), Fail> {
 fn an_area_without_slots_keeps_nothing(rt: HostRuntime) -> Result<(), Fail> {
     let mut area = [];
     let lines = [(t(3), 0), (r(2, 1), 0), (k(100), 9), (r(100, 0), 9)];
-    assert_eq!(rt; found(&rt, &mut area, &lines)?, (26, 3));
+    assert_eq!(rt; found(&rt, &mut area, &lines)?, Some((26, 3)));
     Ok(())
 }
 
 #[test]
 fn settings_that_are_not_declared(rt: HostRuntime) -> Result<(), Fail> {
-    let Some(last) = SettingNumber::new(999) else {
-        return Err(Fail::new("999"));
-    };
-    let mut area = [Slot::Empty; 1];
+    let last = SettingNumber::stopping(999);
+    let mut area = [None; 1];
     let lines = [
         (t(3), 0),
         (r(2, 2), 3),
@@ -107,15 +97,15 @@ fn settings_that_are_not_declared(rt: HostRuntime) -> Result<(), Fail> {
         (r(2, 0), 10),
         (r(2, 1), 0),
     ];
-    assert_eq!(rt; found(&rt, &mut area, &lines)?, (26, 3));
+    assert_eq!(rt; found(&rt, &mut area, &lines)?, Some((26, 3)));
     Ok(())
 }
 
 #[test]
 fn a_slot_may_be_filled_again(rt: HostRuntime) -> Result<(), Fail> {
-    let mut area = [Slot::Empty; 1];
+    let mut area = [None; 1];
     let lines = [(t(3), 0), (k(100), 0), (t(2), 0), (k(100), 0)];
-    assert_eq!(rt; found(&rt, &mut area, &lines)?, (26, 5));
+    assert_eq!(rt; found(&rt, &mut area, &lines)?, Some((26, 5)));
     // the block of rule 2 is x at 0 with y at 1
     assert_eq!(rt; lows(area[0]), Some((0, 1)));
     Ok(())
@@ -123,11 +113,11 @@ fn a_slot_may_be_filled_again(rt: HostRuntime) -> Result<(), Fail> {
 
 #[test]
 fn each_stage_takes_its_letters_and_no_other(rt: HostRuntime) -> Result<(), Fail> {
-    let mut area = [Slot::Empty; 1];
+    let mut area = [None; 1];
     let idle = [(r(0, 0), 23), (k(100), 23), (Line::End, 23), (t(0), 0)];
-    assert_eq!(rt; found(&rt, &mut area, &idle)?, (26, 2));
+    assert_eq!(rt; found(&rt, &mut area, &idle)?, Some((26, 2)));
     let working = [(t(0), 0), (t(0), 23), (Line::End, 11), (k(100), 0)];
-    assert_eq!(rt; found(&rt, &mut area, &working)?, (26, 3));
+    assert_eq!(rt; found(&rt, &mut area, &working)?, Some((26, 3)));
     let [a, b, c, d, e, f, g] = grounds();
     let ended = [
         (a, 0),
@@ -142,15 +132,18 @@ fn each_stage_takes_its_letters_and_no_other(rt: HostRuntime) -> Result<(), Fail
         (k(100), 23),
         (Line::End, 23),
     ];
-    assert_eq!(rt; found(&rt, &mut area, &ended)?, (0, 0));
+    assert_eq!(rt; found(&rt, &mut area, &ended)?, None);
     Ok(())
 }
 
 #[test]
 fn making_a_judge_empties_its_area(rt: HostRuntime) -> Result<(), Fail> {
-    let mut area = [Slot::Empty; 1];
-    assert_eq!(rt; found(&rt, &mut area, &[(t(3), 0), (k(100), 0)])?, (26, 3));
-    assert_eq!(rt; found(&rt, &mut area, &[(t(100), 9)])?, (26, 1));
+    let mut area = [None; 1];
+    assert_eq!(rt;
+        found(&rt, &mut area, &[(t(3), 0), (k(100), 0)])?,
+        Some((26, 3))
+    );
+    assert_eq!(rt; found(&rt, &mut area, &[(t(100), 9)])?, Some((26, 1)));
     Ok(())
 }
 
@@ -163,15 +156,18 @@ fn a_refused_opening_leaves_the_place(rt: HostRuntime) -> Result<(), Fail> {
     };
     let mut place = RuleSet::new(lasts);
     open(&lasts, &[first], &mut place)?;
-    assert_eq!(rt; told(open(&lasts, &[second, always], &mut place)), (5, 0));
-    assert_eq!(rt; place.count, 1);
+    assert_eq!(rt;
+        refused(open(&lasts, &[second, always], &mut place)),
+        Some((5, 0))
+    );
+    assert_eq!(rt; place.count(), 1);
     // it still holds the first rule, which only x at 1 with y at 1 breaks
-    let mut area = [Slot::Empty; 1];
+    let mut area = [None; 1];
     let mut judge = Judge::new(place.problem(), &mut area);
     let seen = answered(&rt, &mut judge, &[(t(0), 0), (k(100), 0), (t(1), 9)]);
     let found = judge.finding();
     seen?;
-    assert_eq!(rt; told(found), (26, 3));
+    assert_eq!(rt; refused(found), Some((26, 3)));
     assert_eq!(rt; lows(area[0]), Some((1, 1)));
     Ok(())
 }

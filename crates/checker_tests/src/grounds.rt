@@ -2,13 +2,13 @@
 use crate::judged;
 use crate::worked::{four_rules, grounds, two_settings};
 use blocks::line::Line;
-use blocks::slot::Slot;
+use scale_edges::refused;
 use scales::refusal::Refusal;
 use std::test::Fail;
 
 // The four rules before a judge with one slot.
 fn judged_on_four(lines: &[Line]) -> Result<(), Refusal> {
-    let mut area = [Slot::Empty; 1];
+    let mut area = [None; 1];
     judged(&two_settings()?, &four_rules(), lines, &mut area)
 }
 
@@ -21,9 +21,10 @@ fn the_grounds_are_accepted() -> Result<(), Fail> {
 // The grounds with one line left out.
 fn grounds_without(out: usize) -> [Line; 6] {
     let lines = grounds();
+    let others = lines.iter().enumerate().filter(|(at, _)| *at != out);
     let mut rest = [Line::End; 6];
-    for i in 0..6 {
-        rest[i] = if i < out { lines[i] } else { lines[i + 1] };
+    for (kept, (_, line)) in rest.iter_mut().zip(others) {
+        *kept = *line;
     }
     rest
 }
@@ -41,12 +42,8 @@ fn with_any_one_line_left_out_they_are_refused(rt: HostRuntime) -> Result<(), Fa
         (26, 7),
     ];
     for (out, stop) in stops.iter().enumerate() {
-        match judged_on_four(&grounds_without(out)) {
-            Ok(()) => assert!(rt; false, "accepted without line {out}"),
-            Err(refusal) => {
-                assert_eq!(rt; (refusal.stop.number(), refusal.place), *stop, "{}", out);
-            }
-        }
+        let answer = refused(judged_on_four(&grounds_without(out)));
+        assert_eq!(rt; answer, Some(*stop), "without line {out}");
     }
     Ok(())
 }

@@ -44,10 +44,7 @@ fn heard(judge: &mut Judge, lines: &[Line]) -> Result<(), Refusal>
 fn first_of(heard: Result<(), Refusal>, found: Result<(), Refusal>) -> Result<(), Refusal>
     ensures { result ≡ first_refusal heard found }
 {
-    match heard {
-        Ok(()) => found,
-        Err(refusal) => Err(refusal),
-    }
+    heard.and(found)
 }
 
 // What comes of rules and lines before a judge with this area: the first refusal, or the finding.

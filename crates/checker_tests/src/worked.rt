@@ -47,7 +47,7 @@ pub(crate) fn t(block: usize) -> Line {
 }
 
 pub(crate) fn r(block: usize, setting: u8) -> Line {
-    Line::Resolve(BlockNumber::stopping(block), SettingNumber::of(setting))
+    Line::Resolve(BlockNumber::stopping(block), SettingNumber::from(setting))
 }
 
 pub(crate) fn k(block: usize) -> Line {

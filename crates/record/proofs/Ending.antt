@@ -20,12 +20,6 @@ one_first l m xs ys e = (
   sym (drop_at (line_bytes l) xs 10 (line_length l)) ∙ ap (drop 10) e ∙ drop_at (line_bytes m) ys 10 (line_length m),
 )
 
-taken_or_refused : {M : Type 0} (t : M) (n : ℕ) → taken t ≡ refused n → ⊥
-taken_or_refused t n e = let z : ◌≡◌ {A = ℕ} 0 1 = cc in omega arith
-
-one_number : {M : Type 0} (j k : ℕ) → ◌≡◌ {A = Step M} (refused j) (refused k) → j ≡ k
-one_number j k e = cc
-
 -- nothing is over, and nothing refused, where a line comes that the sink takes
 goes_on : {M : Type 0} (step : M → Line → Step M) (s t : M) (l : Line) (rest behind : List ℕ) (n : ℕ) (r : Result ℕ Halt) → rest ≡ line_bytes l ++ behind → step s l ≡ taken t → Ends step s rest n r → ⊥
 goes_on step s t l rest behind n (Ok k) e f end =
@@ -39,7 +33,8 @@ goes_on step s t l rest behind n (Err h) e f end = stop h.cause end.0
     stop Shape w = w.1 l behind e
     stop (Sink k) w =
         let same = (one_first w.0 l w.1 behind (sym w.2 ∙ e)).0 in
-        taken_or_refused t k (sym f ∙ ap (step s) (sym same) ∙ w.3)
+        let both : taken t ≡ refused k = sym f ∙ ap (step s) (sym same) ∙ w.3 in
+        cc
 
 one_cause : {M : Type 0} (step : M → Line → Step M) (s : M) (rest : List ℕ) (c d : Cause) → StopsAt step s rest c → StopsAt step s rest d → c ≡ d
 one_cause step s rest Shape Shape v w = refl
@@ -47,7 +42,8 @@ one_cause step s rest Shape (Sink k) v w = absurd (v.1 w.0 w.1 w.2)
 one_cause step s rest (Sink k) Shape v w = absurd (w.1 v.0 v.1 v.2)
 one_cause step s rest (Sink k) (Sink j) v w =
     let same = (one_first v.0 w.0 v.1 w.1 (sym v.2 ∙ w.2)).0 in
-    ap Sink (one_number k j (sym v.3 ∙ ap (step s) same ∙ w.3))
+    let both : refused k ≡ refused j = sym v.3 ∙ ap (step s) same ∙ w.3 in
+    cc
 
 over_or_stops : {M : Type 0} (step : M → Line → Step M) (s : M) (rest : List ℕ) (c : Cause) → rest ≡ [] → StopsAt step s rest c → ⊥
 over_or_stops step s rest Shape e w = let z = ap length e in omega (arith, w.0)

@@ -1,5 +1,5 @@
 -- A record that is read line by line.
-use Rattle.std.proofs.Common.{◌≡◌, ℕ, ◌+◌, ◌*◌, ◌<◌, ◌≤◌, min, List, [], ◌∷◌, ◌++◌, length, take, Ok, Err, sym, refl, ap, ◌∙◌, subst, arith}
+use Rattle.std.proofs.Common.{◌≡◌, ℕ, ◌+◌, ◌*◌, ◌/◌, ◌<◌, min, List, [], ◌∷◌, ◌++◌, length, take, Ok, Err, sym, refl, ap, ◌∙◌, subst, arith}
 use Rattle.std.specs.List.{flat_map}
 use Rattle.std.proofs.lemmas.List.{append_assoc, length-append, length_push, take_at, flat_map_more, nil_from_length}
 use Rattle.blocks.specs.declared.line.Line.{Line}
@@ -39,9 +39,6 @@ pub record SoFar {M : Type 0} (step : M → Line → Step M) (s : M) (text rest 
   pub state : t ≡ state_after step s lines
   pub count : n ≡ length lines
 
-pub none_yet : {M : Type 0} (step : M → Line → Step M) (s : M) (text : List ℕ) → SoFar step s text text 0 s
-none_yet step s text = record { lines = []; begins = refl; taken_all = tt; state = refl; count = refl }
-
 pub one_more : {M : Type 0} (step : M → Line → Step M) (s : M) (text rest piece behind : List ℕ) (n : ℕ) (t u : M) (l : Line) → SoFar step s text rest n t
     → rest ≡ piece ++ behind → piece ≡ line_bytes l → step t l ≡ taken u → SoFar step s text behind (n + 1) u
 one_more step s text rest piece behind n t u l so cut is f =
@@ -56,12 +53,18 @@ one_more step s text rest piece behind n t u l so cut is f =
       count = ap (λ k. k + 1) so.count ∙ sym (length_push so.lines l);
     }
 
-pub all_read : {M : Type 0} (step : M → Line → Step M) (s : M) (text rest : List ℕ) (n : ℕ) (t : M) → SoFar step s text rest n t → length rest ≤ 0 → Reads step s text (Ok n) t
+-- a text has ten bytes for each line, and the rest
+so_far_length : {M : Type 0} (step : M → Line → Step M) (s : M) (text rest : List ℕ) (n : ℕ) (t : M) → SoFar step s text rest n t → length text ≡ 10 * n + length rest
+so_far_length step s text rest n t so =
+    ap length so.begins ∙ length-append (flat_map line_bytes so.lines) rest ∙ ap (λ k. k + length rest) (joined_length so.lines ∙ ap (λ k. 10 * k) (sym so.count))
+
+pub all_read : {M : Type 0} (step : M → Line → Step M) (s : M) (text rest : List ℕ) (n : ℕ) (t : M) → SoFar step s text rest n t → length rest ≡ 0 → Reads step s text (Ok (length text / 10)) t
 all_read step s text rest n t so h =
-    record { lines = so.lines; rest = rest; begins = so.begins; taken_all = so.taken_all; state = so.state; ends = (nil_from_length rest (omega arith), so.count) }
+    let all = so_far_length step s text rest n t so in
+    record { lines = so.lines; rest = rest; begins = so.begins; taken_all = so.taken_all; state = so.state; ends = (nil_from_length rest h, omega (arith, so.count)) }
 
 -- the first ten bytes, or all where there are fewer, tell whether a text begins with a line
-begins_so : (rest piece behind after : List ℕ) (l : Line) → rest ≡ piece ++ behind → length piece ≡ min (length rest) 10 → rest ≡ line_bytes l ++ after → piece ≡ line_bytes l
+begins_so : (rest piece behind after : List ℕ) (l : Line) → rest ≡ piece ++ behind → length piece ≡ min 10 (length rest) → rest ≡ line_bytes l ++ after → piece ≡ line_bytes l
 begins_so rest piece behind after l cut some e =
     let a = line_length l in
     let b = length-append (line_bytes l) after in
@@ -69,13 +72,13 @@ begins_so rest piece behind after l cut some e =
     let ten : length piece ≡ 10 = omega arith in
     sym (take_at piece behind 10 ten) ∙ ap (take 10) (sym cut ∙ e) ∙ take_at (line_bytes l) after 10 a
 
-stops_at : {M : Type 0} (step : M → Line → Step M) (s : M) (rest piece behind : List ℕ) (c : Cause) → 0 < length rest → rest ≡ piece ++ behind → length piece ≡ min (length rest) 10
+stops_at : {M : Type 0} (step : M → Line → Step M) (s : M) (rest piece behind : List ℕ) (c : Cause) → 0 < length rest → rest ≡ piece ++ behind → length piece ≡ min 10 (length rest)
     → Refused step s piece c → StopsAt step s rest c
 stops_at step s rest piece behind Shape some cut ten why = (some, λ l after e. why l (begins_so rest piece behind after l cut ten e))
 stops_at step s rest piece behind (Sink n) some cut ten why = (why.0, behind, cut ∙ ap (λ xs. xs ++ behind) why.1, why.2)
 
 pub stopped : {M : Type 0} (step : M → Line → Step M) (s : M) (text rest piece behind : List ℕ) (n : ℕ) (t u : M) (h : Halt) → SoFar step s text rest n t → 0 < length rest
-    → rest ≡ piece ++ behind → length piece ≡ min (length rest) 10 → Fed step t (n + 1) piece (Err h) u → Reads step s text (Err h) u
+    → rest ≡ piece ++ behind → length piece ≡ min 10 (length rest) → Fed step t (n + 1) piece (Err h) u → Reads step s text (Err h) u
 stopped step s text rest piece behind n t u h so some cut ten fed =
     record {
       lines = so.lines;
@@ -88,10 +91,3 @@ stopped step s text rest piece behind n t u h so some cut ten fed =
         fed.1 ∙ ap (λ m. halt_at h.cause (m + 1)) so.count,
       );
     }
-
-pub shorter : (rest piece behind : List ℕ) → 0 < length rest → rest ≡ piece ++ behind → length piece ≡ min (length rest) 10 → length behind < length rest
-shorter rest piece behind some cut ten = omega (arith, ap length cut, length-append piece behind)
-
-pub so_far_length : {M : Type 0} (step : M → Line → Step M) (s : M) (text rest : List ℕ) (n : ℕ) (t : M) → SoFar step s text rest n t → length text ≡ 10 * n + length rest
-so_far_length step s text rest n t so =
-    ap length so.begins ∙ length-append (flat_map line_bytes so.lines) rest ∙ ap (λ k. k + length rest) (joined_length so.lines ∙ ap (λ k. 10 * k) (sym so.count))

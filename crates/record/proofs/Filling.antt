@@ -80,18 +80,13 @@ fill b w (l ∷ ls) h =
 pub did_fit : (b : List ℕ) (w : ℕ) (ls : List Line) → w ≤ length b → TakesAll writes (page b w) ls → w + 10 * length ls ≤ length b
 did_fit b w [] h a = omega arith
 did_fit b w (l ∷ ls) h a = elim (cases_lt (length b) (w + 10)) [
-  | inl full ↦ absurd (never (sym a.1 ∙ is_full b w l full))
+  | inl full ↦ let both : taken a.0 ≡ refused 25 = sym a.1 ∙ is_full b w l full in cc
   | inr room ↦
-      let same = one_state a.0 (sym a.1 ∙ fits b w l room) in
+      let both : taken a.0 ≡ taken (after b w l) = sym a.1 ∙ fits b w l room in
+      let same : a.0 ≡ after b w l = cc in
       let rest = did_fit (put w (line_bytes l) b) (w + 10) ls (omega (arith, put_length b (line_bytes l) w (line_length l) room)) (subst (λ p. TakesAll writes p ls) same a.2) in
       omega (arith, rest, put_length b (line_bytes l) w (line_length l) room)
 ]
-  where
-    never : taken a.0 ≡ refused 25 → ⊥
-    never e = let z : ◌≡◌ {A = ℕ} 0 1 = cc in omega arith
-
-    one_state : (p : Page) → taken p ≡ taken (after b w l) → p ≡ after b w l
-    one_state p e = cc
 
 pub record_stands : RecordStands
 record_stands = record {

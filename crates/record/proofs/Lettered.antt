@@ -2,10 +2,8 @@
 use Rattle.std.proofs.Common.{◌≡◌, ℕ, ◌+◌, ◌*◌, ◌/◌, ◌%◌, ◌≤◌, List, [], ◌∷◌, ◌++◌, length, get_or, sym, refl, ap, ◌∙◌, arith}
 use Rattle.blocks.specs.declared.line.Line.{Line}
 use Rattle.blocks.specs.declared.line.Line.TheVariants.{Take, Resolve, Keep, End}
-use Rattle.blocks.specs.declared.line.numbers.BlockNumber.{BlockNumber}
-use Rattle.blocks.specs.declared.line.numbers.SettingNumber.{SettingNumber}
-use Rattle.blocks.specs.Lines.{letter, block_column, setting_column}
-use Rattle.blocks.proofs.Numbered.{same_block_number, same_setting_number}
+use Rattle.blocks.specs.Lines.{BlockNumber, SettingNumber, letter, block_column, setting_column}
+use Rattle.blocks.proofs.Numbered.{same_number}
 use Rattle.record.specs.Digits.{last_digit, front_byte, worth}
 use Rattle.record.specs.LineBytes.{line_bytes}
 use Rattle.record.proofs.Justified.{five_columns, three_columns, last_worth, front_worth}
@@ -70,7 +68,7 @@ reads_setting bs l e = ap setting_in (e ∙ line_is_ten l) ∙ setting_back (let
 
 -- a letter, and the numbers in the columns that it uses, tell a line
 pub is_take : (l : Line) (b : BlockNumber) → letter l ≡ 116 → block_column l ≡ b.number → l ≡ Take b
-is_take (Take d) b c e = ap Take (same_block_number d b e)
+is_take (Take d) b c e = ap Take (same_number d b e)
 is_take (Resolve d t) b c e = absurd (omega arith)
 is_take (Keep d) b c e = absurd (omega arith)
 is_take End b c e = absurd (omega arith)
@@ -78,8 +76,8 @@ is_take End b c e = absurd (omega arith)
 pub is_resolve : (l : Line) (b : BlockNumber) (s : SettingNumber) → letter l ≡ 114 → block_column l ≡ b.number → setting_column l ≡ s.number → l ≡ Resolve b s
 is_resolve (Take d) b s c e f = absurd (omega arith)
 is_resolve (Resolve d t) b s c e f =
-    let p = same_block_number d b e in
-    let q = same_setting_number t s f in
+    let p = same_number d b e in
+    let q = same_number t s f in
     λ i. Resolve (p i) (q i)
 is_resolve (Keep d) b s c e f = absurd (omega arith)
 is_resolve End b s c e f = absurd (omega arith)
@@ -87,7 +85,7 @@ is_resolve End b s c e f = absurd (omega arith)
 pub is_keep : (l : Line) (b : BlockNumber) → letter l ≡ 107 → block_column l ≡ b.number → l ≡ Keep b
 is_keep (Take d) b c e = absurd (omega arith)
 is_keep (Resolve d t) b c e = absurd (omega arith)
-is_keep (Keep d) b c e = ap Keep (same_block_number d b e)
+is_keep (Keep d) b c e = ap Keep (same_number d b e)
 is_keep End b c e = absurd (omega arith)
 
 pub is_end : (l : Line) → letter l ≡ 101 → l ≡ End

@@ -1,7 +1,6 @@
 pub mod Justified
 pub mod Lettered
 pub mod Deciding
-pub mod Putting
 pub mod Feeding
 pub mod Pieces
 pub mod Ending

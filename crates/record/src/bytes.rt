@@ -5,7 +5,8 @@ ghost use Rattle.record.specs.LineBytes.{line_bytes};
 
 use blocks::line::Line;
 
-// The last digit of a number.
+// The last digit of a number. Digits are made one by one: what formats by `write!` can fail, and a line
+// always has its bytes.
 fn last_digit(n: u32) -> u8
     ensures { result ≡ last_digit n }
 {
@@ -20,13 +21,13 @@ fn front_byte(left: u32) -> u8
     if left == 0 { b' ' } else { last_digit(left) }
 }
 
-// The ten bytes of a line. No other line has them.
+// The ten bytes of a line. No other line has them. It is no From: neither type is of this crate.
 pub fn line_bytes(line: Line) -> [u8; 10]
     ensures written { result ≡ line_bytes line }
     ensures only { (other : Line) → line_bytes other ≡ result → other ≡ line }
 {
     let block = line.block();
-    let setting = u32::from(line.setting());
+    let setting = line.setting();
     [
         line.letter(),
         front_byte(block / 10_000),

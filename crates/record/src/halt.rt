@@ -32,7 +32,7 @@ impl Cause {
 }
 
 impl Halt {
-    // A halt at the nth line.
+    // A halt at the nth line. It stops as Refusal::at_line does; all that they share is one expression.
     pub fn at_line(cause: Cause, nth: u64) -> Halt
         ensures { result ≡ halt_at cause nth }
     {

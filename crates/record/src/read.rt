@@ -1,4 +1,4 @@
-ghost use Rattle.std.specs.Prelude.{◌≡◌, ◌≤◌, Some, Ok, Decides, MatchOption, ◌≢◌};
+ghost use Rattle.std.specs.Prelude.{◌≡◌, ◌≤◌, Some, Ok, MatchOption, ◌≢◌};
 ghost use Rattle.scales.specs.Checks.{Outcome};
 ghost use Rattle.blocks.specs.declared.line.Line.{Line};
 ghost use Rattle.blocks.specs.Lines.{letter, block_column, setting_column};
@@ -15,15 +15,12 @@ fn digit_worth(byte: u8) -> u32
     ensures value { result ≡ worth byte }
     ensures small { result ≤ 9 }
 {
-    match byte {
-        b'0'..=b'9' => u32::from(byte - b'0'),
-        _ => 0,
-    }
+    char::from(byte).to_digit(10).unwrap_or(0)
 }
 
 // The line of this letter with these numbers in its columns, where there is one. Columns that the
 // line does not use are not looked at.
-fn line_of(initial: u8, block: u32, setting: u16) -> Option<Line>
+fn line_of(initial: u8, block: u32, setting: u32) -> Option<Line>
     ensures { (l : Line) → letter l ≡ initial → block_column l ≡ block → setting_column l ≡ setting → result ≡ Some l }
 {
     let block = BlockNumber::new(block)?;
@@ -37,39 +34,28 @@ fn line_of(initial: u8, block: u32, setting: u16) -> Option<Line>
     }
 }
 
-// Whether the two hold the same bytes.
-fn is_same(a: &[u8], b: &[u8]) -> bool
-    ensures { Decides result (a.now ≡ b.now) }
-{
-    a == b
-}
-
 // The line, where these are its bytes: so a zero or a minus before a number, or a number in columns
 // that go unused, is not taken.
 fn if_written(line: Line, bytes: &[u8]) -> Option<Line>
     ensures { MatchOption result (bytes.now ≢ line_bytes line) (λ l. (l ≡ line) × (bytes.now ≡ line_bytes l)) }
 {
-    if is_same(bytes, &line_bytes(line)) {
-        Some(line)
-    } else {
-        None
-    }
+    (bytes == line_bytes(line).as_slice()).then_some(line)
 }
 
 // The line that the letter and the digits tell. Where these are a line's bytes, it is that line.
 fn guessed(bytes: &[u8]) -> Option<Line>
     ensures { (l : Line) → bytes.now ≡ line_bytes l → result ≡ Some l }
 {
-    if bytes.len() != 10 {
+    let &[initial, b5, b4, b3, b2, b1, s3, s2, s1, _] = bytes else {
         return None;
-    }
-    let block = digit_worth(bytes[1]) * 10_000
-        + digit_worth(bytes[2]) * 1_000
-        + digit_worth(bytes[3]) * 100
-        + digit_worth(bytes[4]) * 10
-        + digit_worth(bytes[5]);
-    let setting = digit_worth(bytes[6]) * 100 + digit_worth(bytes[7]) * 10 + digit_worth(bytes[8]);
-    line_of(bytes[0], block, setting as u16)
+    };
+    let block = digit_worth(b5) * 10_000
+        + digit_worth(b4) * 1_000
+        + digit_worth(b3) * 100
+        + digit_worth(b2) * 10
+        + digit_worth(b1);
+    let setting = digit_worth(s3) * 100 + digit_worth(s2) * 10 + digit_worth(s1);
+    line_of(initial, block, setting)
 }
 
 // What the bytes say: the guess, where it is written just so.
@@ -85,8 +71,5 @@ pub fn read_line(bytes: &[u8], nth: u64) -> Result<Line, Refusal>
     ensures outcome { Outcome (shape_checks nth bytes.now) (λ l. bytes.now ≡ line_bytes l) result }
     ensures back { (l : Line) → bytes.now ≡ line_bytes l → result ≡ Ok l }
 {
-    match said(bytes) {
-        Some(line) => Ok(line),
-        None => Err(Refusal::at_line(Stop::BadShape, nth)),
-    }
+    said(bytes).ok_or(Refusal::at_line(Stop::BadShape, nth))
 }

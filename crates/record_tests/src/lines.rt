@@ -11,11 +11,11 @@ fn both_ways(rt: &impl Abort, line: Line, bytes: &[u8; 10]) {
     assert_eq!(rt; read_line(bytes, 1), Ok(line));
 }
 
-fn resolve(block: usize, setting: u16) -> Line {
-    match SettingNumber::new(setting) {
-        Some(setting) => Line::Resolve(BlockNumber::stopping(block), setting),
-        None => Line::End,
-    }
+fn resolve(block: usize, setting: usize) -> Line {
+    Line::Resolve(
+        BlockNumber::stopping(block),
+        SettingNumber::stopping(setting),
+    )
 }
 
 #[test]

@@ -1,7 +1,7 @@
 // Tests of the scales at their edges.
 //
 // Each test is a table of values with the positions that the definitions give, worked out by hand.
-// The two functions here read a scale for the tests, and are proved for every scale.
+// The two functions here read a scale and an answer for the tests. The one is proved for every scale.
 #![tactic(auto)]
 
 ghost use Rattle.std.specs.Prelude.{◌≡◌, Some, None, Ok, Err, MatchBool};
@@ -35,12 +35,10 @@ pub fn stands_at<S: Scale>(scale: &S, v: S::Value, p: u32) -> bool
     at == p && back == p
 }
 
-// The number and the place of a refusal.
+// The number and the place of a refusal, as users are told them and the tests list them.
 pub fn refused<T: Drop>(answer: Result<T, Refusal>) -> Option<(u8, u32)>
     ensures { elim answer [ Ok _ ↦ result ≡ None | Err e ↦ result ≡ Some (number e.stop, e.place) ] }
 {
-    match answer {
-        Ok(_) => None,
-        Err(refusal) => Some((refusal.stop.number(), refusal.place)),
-    }
+    let refusal = answer.err()?;
+    Some((refusal.stop.number(), refusal.place))
 }

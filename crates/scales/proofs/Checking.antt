@@ -1,11 +1,11 @@
 -- A list of checks has exactly one outcome, and how the outcomes of two lists join.
-use Rattle.std.proofs.Common.{◌≡◌, ◌⊎◌, List, [], ◌∷◌, ◌++◌, sym, ◌∙◌, inl, inr}
+use Rattle.std.proofs.Common.{◌≡◌, ◌⊎◌, List, [], ◌∷◌, ◌++◌, inl, inr, rules}
 use Rattle.scales.specs.declared.refusal.Refusal.{Refusal}
 use Rattle.scales.specs.Checks.{Check, Passes, Refuses, Decided, OneOutcome}
 
 pub both_pass : (a b : List Check) → Passes a → Passes b → Passes (a ++ b)
 both_pass [] b p q = q
-both_pass (c ∷ a) b p q = (p.0, both_pass a b p.1 q)
+both_pass (c ∷ a) b p q = search (rules, both_pass a b)
 
 pub pass_behind : (a b : List Check) → Passes (a ++ b) → Passes b
 pass_behind [] b p = p
@@ -13,24 +13,19 @@ pass_behind (c ∷ a) b p = pass_behind a b p.1
 
 pub first_refuses : (a b : List Check) (e : Refusal) → Refuses a e → Refuses (a ++ b) e
 first_refuses [] b e r = absurd r
-first_refuses (c ∷ a) b e (inl r) = inl r
-first_refuses (c ∷ a) b e (inr r) = inr (r.0, first_refuses a b e r.1)
+first_refuses (c ∷ a) b e r = grind (rules, first_refuses a b e)
 
 pub second_refuses : (a b : List Check) (e : Refusal) → Passes a → Refuses b e → Refuses (a ++ b) e
 second_refuses [] b e p r = r
-second_refuses (c ∷ a) b e p r = inr (p.0, second_refuses a b e p.1 r)
+second_refuses (c ∷ a) b e p r = search (rules, second_refuses a b e)
 
 pub not_both : (cs : List Check) (e : Refusal) → Passes cs → Refuses cs e → ⊥
 not_both [] e p r = r
-not_both (c ∷ cs) e p (inl r) = r.0 p.0
-not_both (c ∷ cs) e p (inr r) = not_both cs e p.1 r.1
+not_both (c ∷ cs) e p r = grind (rules, not_both cs e)
 
 pub one_refusal : (cs : List Check) (e f : Refusal) → Refuses cs e → Refuses cs f → e ≡ f
 one_refusal [] e f r s = absurd r
-one_refusal (c ∷ cs) e f (inl r) (inl s) = r.1 ∙ sym s.1
-one_refusal (c ∷ cs) e f (inl r) (inr s) = absurd (r.0 s.0)
-one_refusal (c ∷ cs) e f (inr r) (inl s) = absurd (s.0 r.0)
-one_refusal (c ∷ cs) e f (inr r) (inr s) = one_refusal cs e f r.1 s.1
+one_refusal (c ∷ cs) e f r s = grind (rules, one_refusal cs e f)
 
 some_outcome : (cs : List Check) → Decided cs → Passes cs ⊎ ((e : Refusal) × Refuses cs e)
 some_outcome [] d = inl tt

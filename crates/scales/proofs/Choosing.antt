@@ -1,5 +1,5 @@
 -- A choice and its profile determine each other, and meet the same bounds.
-use Rattle.std.proofs.Common.{◌≡◌, ℕ, zero, suc, ◌<◌, ◌≤◌, ◌⊎◌, List, [], ◌∷◌, length, get_or, sym, refl, ap, ◌∙◌, inl, inr, arith}
+use Rattle.std.proofs.Common.{◌≡◌, ℕ, zero, suc, ◌<◌, ◌≤◌, ◌⊎◌, List, [], ◌∷◌, length, get_or, sym, refl, ap, ◌∙◌, arith, rules}
 use Rattle.scales.specs.declared.side.Side.{Side}
 use Rattle.scales.specs.declared.side.Side.TheVariants.{AtMost, AtLeast}
 use Rattle.scales.specs.Models.{ScaleModel, Keeps}
@@ -9,18 +9,12 @@ use Rattle.scales.specs.Choices.{AllKeep, lasts, Choice, OnScales, Within, profi
 -- one value, and its position
 module _ (m : ScaleModel) (k : Keeps m) (v : m.Value) (o : m.On v) (p : ℕ) (h : p ≤ m.top) where
   pub value→place : (side : Side) → ValueMeets m side v p → Meets side (m.position v) p
-  value→place AtMost (inl e) = let q = ap m.position e in omega (arith, k.place_value p h)
-  value→place AtMost (inr e) = omega (arith, k.place_value p h, k.earlier_smaller v (m.standing p) o (k.value_on p h) e)
-  value→place AtLeast (inl e) = let q = ap m.position e in omega (arith, k.place_value p h)
-  value→place AtLeast (inr e) = omega (arith, k.place_value p h, k.earlier_smaller (m.standing p) v (k.value_on p h) o e)
+  value→place AtMost l = grind (arith, k.place_value p h, k.earlier_smaller v (m.standing p) o (k.value_on p h))
+  value→place AtLeast l = grind (arith, k.place_value p h, k.earlier_smaller (m.standing p) v (k.value_on p h) o)
 
   by_order : (side : Side) → (v ≡ m.standing p) ⊎ (m.Earlier v (m.standing p) ⊎ m.Earlier (m.standing p) v) → Meets side (m.position v) p → ValueMeets m side v p
-  by_order AtMost (inl e) l = inl e
-  by_order AtMost (inr (inl e)) l = inr e
-  by_order AtMost (inr (inr e)) l = absurd (omega (arith, k.place_value p h, k.earlier_smaller (m.standing p) v (k.value_on p h) o e))
-  by_order AtLeast (inl e) l = inl e
-  by_order AtLeast (inr (inl e)) l = absurd (omega (arith, k.place_value p h, k.earlier_smaller v (m.standing p) o (k.value_on p h) e))
-  by_order AtLeast (inr (inr e)) l = inr e
+  by_order AtMost t l = grind (arith, k.place_value p h, k.earlier_smaller (m.standing p) v (k.value_on p h) o)
+  by_order AtLeast t l = grind (arith, k.place_value p h, k.earlier_smaller v (m.standing p) o (k.value_on p h))
 
   pub place→value : (side : Side) → Meets side (m.position v) p → ValueMeets m side v p
   place→value side = by_order side (k.total v (m.standing p) o (k.value_on p h))
@@ -48,12 +42,6 @@ has_choice (m ∷ ms) k (x ∷ xs) w =
     let r = has_choice ms k.1 xs w.1 in
     ((m.standing x, r.0), (k.0.value_on x w.0, r.1), ap (λ (p : ℕ). p ∷ profile ms r.0) (k.0.place_value x w.0) ∙ ap (λ (ps : List ℕ). x ∷ ps) r.2)
 
-heads : (x y : ℕ) (xs ys : List ℕ) → ◌≡◌ {A = List ℕ} (x ∷ xs) (y ∷ ys) → x ≡ y
-heads x y xs ys e = cc
-
-tails : (x y : ℕ) (xs ys : List ℕ) → ◌≡◌ {A = List ℕ} (x ∷ xs) (y ∷ ys) → xs ≡ ys
-tails x y xs ys e = cc
-
 only_choice : (ms : List ScaleModel) → AllKeep ms → (c d : Choice ms) → OnScales ms c → OnScales ms d → profile ms c ≡ profile ms d → c ≡ d
 only_choice [] k c d o q e = refl
 only_choice (m ∷ ms) k c d o q e =
@@ -61,8 +49,8 @@ only_choice (m ∷ ms) k c d o q e =
     let y = m.position d.0 in
     let xs = profile ms c.1 in
     let ys = profile ms d.1 in
-    let a : c.0 ≡ d.0 = sym (k.0.value_place c.0 o.0) ∙ ap m.standing (heads x y xs ys e) ∙ k.0.value_place d.0 q.0 in
-    let b : c.1 ≡ d.1 = only_choice ms k.1 c.1 d.1 o.1 q.1 (tails x y xs ys e) in
+    let a : c.0 ≡ d.0 = sym (k.0.value_place c.0 o.0) ∙ ap m.standing (search rules) ∙ k.0.value_place d.0 q.0 in
+    let b : c.1 ≡ d.1 = only_choice ms k.1 c.1 d.1 o.1 q.1 (search rules) in
     λ i. (a i, b i)
 
 pub choices_stand : (ms : List ScaleModel) → AllKeep ms → ChoicesStand ms

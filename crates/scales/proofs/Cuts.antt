@@ -1,21 +1,15 @@
 -- A window has just the values between its ends, counted from the first.
-use Rattle.std.proofs.Common.{◌≡◌, ℕ, ◌≤◌, ◌⊎◌, ap, inl, inr, arith}
+use Rattle.std.proofs.Common.{◌≡◌, ℕ, ◌≤◌, arith}
 use Rattle.scales.specs.Models.{ScaleModel, Keeps}
 use Rattle.scales.specs.Windows.{NotAfter, GoodEnds, WindowOf}
 
 module _ (m : ScaleModel) (k : Keeps m) where
   -- the order is that of the positions
   pub not_after→le : (v w : m.Value) → m.On v → m.On w → NotAfter m v w → m.position v ≤ m.position w
-  not_after→le v w o q (inl e) = let d = ap m.position e in omega arith
-  not_after→le v w o q (inr e) = omega (arith, k.earlier_smaller v w o q e)
+  not_after→le v w o q t = grind (arith, k.earlier_smaller v w o q)
 
   pub le→not_after : (v w : m.Value) → m.On v → m.On w → m.position v ≤ m.position w → NotAfter m v w
-  le→not_after v w o q h = go (k.total v w o q)
-    where
-      go : (v ≡ w) ⊎ (m.Earlier v w ⊎ m.Earlier w v) → NotAfter m v w
-      go (inl e) = inl e
-      go (inr (inl e)) = inr e
-      go (inr (inr e)) = absurd (omega (arith, k.earlier_smaller w v q o e))
+  le→not_after v w o q h = grind (arith, k.total v w o q, k.earlier_smaller w v q o)
 
   pub good_ends : (from to : m.Value) → m.On from → m.On to → m.position from ≤ m.position to → GoodEnds m from to
   good_ends from to a b h = record { from_on = a; to_on = b; in_order = le→not_after from to a b h }

@@ -2,8 +2,9 @@
 use Rattle.std.specs.Prelude.{◌≡◌, ℕ, zero, suc, ◌+◌, ◌-◌, ◌*◌, ◌/◌, ◌%◌, ◌^◌, ◌<◌, ◌≤◌, Bool, true, false, cond, not, T, ltb, leb, ◌⊎◌, pos, ◌==◌, is_nan, nat_le, nat_lt, to_bits, refl, Float}
 use Rattle.std.proofs.Common.{sym, ap, subst, ◌∙◌, inl, inr, true≢false, mul_assoc, mul_comm, mul_right_comm, mul-lt-mul_of_pos_right, mul-le-mul_right, mul-le-mul_left, lt_of_mul-lt-mul_right, mul-pos, pow-suc, zero-mul, eq-or-lt_of_le, arith, lt→ltb, ltb→lt, leb→le, le→leb, T_not, eqb→eq, pow_pos, pow_mono}
 use Rattle.std.proofs.Math.Dec.{not_T}
+use Rattle.std.proofs.lemmas.Float.{not_nan_f32_bits, lt_irrefl, lt_trans}
 use Rattle.std.specs.Float.{nan, inf, fin, binary32}
-use Rattle.std.specs.Float.Ieee.{fits, lt, below, of_bits, of_fields, nan_bits, odd, up, down}
+use Rattle.std.specs.Float.Ieee.{fits, lt, of_bits, of_fields, odd, up, down}
 use Rattle.std.specs.Float.Ieee.Bits.{of_bits-to_bits, to_bits-lt, to_bits-of_bits, nan_bits_is, nan_bits_above, of_bits-fits, is_true, is_false, cond_no}
 use Rattle.std.specs.Float.Ieee.Exact.{HasValue, odd_sign}
 use Rattle.std.specs.Float.Ieee.Fits.{down_pos}
@@ -12,9 +13,6 @@ use Rattle.scales.specs.Orders.{laws_by_places}
 use Rattle.scales.specs.Readings.{OnReading, EarlierReading, place_bits, bits_at, place_reading, value_reading}
 
 -- ---- which patterns are numbers
-
-pub no_nan : (b : ℕ) → b % 2147483648 ≤ 2139095040 → T (not (nan_bits binary32 b))
-no_nan b h = subst (λ (t : Bool). T (not t)) (sym (nan_bits_above binary32 b)) (not_T (nat_lt 2139095040 (b % 2147483648)) (λ k. let l = ltb→lt 2139095040 (b % 2147483648) k in omega arith))
 
 pub small_rest : (x : Float) → T (fits binary32 x) → T (not (is_nan x)) → to_bits binary32 x % 2147483648 ≤ 2139095040
 small_rest x f n =
@@ -25,9 +23,6 @@ small_rest x f n =
   where
     over : (b : ℕ) → (2139095040 < b % 2147483648 → ⊥) → b % 2147483648 ≤ 2139095040
     over b h = omega arith
-
-pub small_bits : (x : Float) → T (fits binary32 x) → to_bits binary32 x < 4294967296
-small_bits x f = to_bits-lt binary32 x f
 
 -- ---- sizes, in units of 2 ^ -149, by the exponent's field and the digits
 
@@ -231,28 +226,8 @@ signs_lt m n k l some_size = go (eq-or-lt_of_le k) (eq-or-lt_of_le l)
 
 -- ---- the order goes one way
 
-tests_asym : (a b : ℕ) → T (nat_lt a b) → T (nat_lt b a) → ⊥
-tests_asym a b p q = let l = ltb→lt a b p in let k = ltb→lt b a q in omega arith
-
-below_asym : (s t : Bool) (a b : ℕ) → T (below s a t b) → T (below t b s a) → ⊥
-below_asym false false a b p q = tests_asym a b p q
-below_asym false true a b p q = p
-below_asym true false a b p q = q
-below_asym true true a b p q = tests_asym b a p q
-
 lt_asym : (x y : Float) → T (lt x y) → T (lt y x) → ⊥
-unfolding lt
-lt_asym nan y p q = p
-lt_asym (inf s) nan p q = p
-lt_asym (inf true) (inf true) p q = p
-lt_asym (inf true) (inf false) p q = q
-lt_asym (inf false) (inf t) p q = p
-lt_asym (inf true) (fin t n d) p q = q
-lt_asym (inf false) (fin t n d) p q = p
-lt_asym (fin s m e) nan p q = p
-lt_asym (fin s m e) (inf true) p q = p
-lt_asym (fin s m e) (inf false) p q = q
-lt_asym (fin s m e) (fin t n d) p q = below_asym s t (m * up e * down d) (n * up d * down e) p q
+lt_asym x y p q = lt_irrefl x (lt_trans x y x p q)
 
 zeros_back : T (lt (fin false 0 (pos 0)) (fin true 0 (pos 0))) → ⊥
 unfolding lt
@@ -287,7 +262,7 @@ pub patterns : (b : ℕ) → b < 4294967296 → b % 2147483648 ≤ 2139095040 �
 patterns b h k = grind arith
 
 number_at : (p : ℕ) → p ≤ 4278190081 → T (not (is_nan (value_reading p)))
-number_at p h = subst (λ (t : Bool). T (not t)) (nan_bits_is binary32 (bits_at p)) (no_nan (bits_at p) (bits_good p h).1)
+number_at p h = subst (λ (t : Bool). T (not t)) (nan_bits_is binary32 (bits_at p)) (not_nan_f32_bits (bits_at p) (bits_good p h).1)
 
 in_order : (p q : ℕ) → p < q → q ≤ 4278190081 → EarlierReading (value_reading p) (value_reading q)
 in_order p q h k = go (sides p q h)
@@ -311,9 +286,9 @@ in_order p q h k = go (sides p q h)
 pub reading_laws : ScaleLaws OnReading EarlierReading place_reading value_reading 4278190081
 reading_laws =
     laws_by_places OnReading EarlierReading place_reading value_reading 4278190081 (omega arith)
-    (λ v o. (patterns (to_bits binary32 v) (small_bits v o.0) (small_rest v o.0 o.1)).0)
+    (λ v o. (patterns (to_bits binary32 v) (to_bits-lt binary32 v o.0) (small_rest v o.0 o.1)).0)
     (λ p h. (of_bits-fits binary32 (bits_at p), number_at p h))
     (λ p h. ap place_bits (to_bits-of_bits binary32 (bits_at p) (bits_good p h).0 (number_at p h)) ∙ places p h)
-    (λ v o. ap (of_bits binary32) (patterns (to_bits binary32 v) (small_bits v o.0) (small_rest v o.0 o.1)).1 ∙ of_bits-to_bits binary32 v o.0)
+    (λ v o. ap (of_bits binary32) (patterns (to_bits binary32 v) (to_bits-lt binary32 v o.0) (small_rest v o.0 o.1)).1 ∙ of_bits-to_bits binary32 v o.0)
     in_order
     earlier_asym

@@ -1,10 +1,7 @@
 -- The laws of a scale, from the order of its positions.
-use Rattle.std.specs.Prelude.{◌≡◌, ℕ, ◌<◌, ◌≤◌, ◌⊎◌}
-use Rattle.std.proofs.Common.{sym, ap, subst, ◌∙◌, inl, inr, arith}
+use Rattle.std.specs.Prelude.{◌≡◌, ℕ, ◌<◌, ◌≤◌}
+use Rattle.std.proofs.Common.{sym, ap, subst, ◌∙◌, arith}
 use Rattle.scales.specs.Laws.{ScaleLaws}
-
-pub three_ways : (a b : ℕ) → (a ≡ b) ⊎ ((a < b) ⊎ (b < a))
-three_ways a b = grind arith
 
 module _ {V : Type 0} (on : V → Type 0) (earlier : V → V → Type 0) (position : V → ℕ) (standing : ℕ → V) (top : ℕ)
     (small : top ≤ 4294967294)
@@ -22,12 +19,7 @@ module _ {V : Type 0} (on : V → Type 0) (earlier : V → V → Type 0) (positi
   same_place v w o q e = sym (value_place v o) ∙ ap standing e ∙ value_place w q
 
   smaller : (v w : V) → on v → on w → earlier v w → position v < position w
-  smaller v w o q e = go (three_ways (position v) (position w))
-    where
-      go : (position v ≡ position w) ⊎ ((position v < position w) ⊎ (position w < position v)) → position v < position w
-      go (inl s) = let t = same_place v w o q s in absurd (asym v w e (subst (λ (x : V). earlier x v) t (subst (λ (x : V). earlier v x) (sym t) e)))
-      go (inr (inl l)) = l
-      go (inr (inr g)) = absurd (asym v w e (by_places w v q o g))
+  smaller v w o q e = grind (arith, same_place v w o q, by_places w v q o, asym v w, e)
 
   pub laws_by_places : ScaleLaws on earlier position standing top
   laws_by_places = record {
@@ -37,9 +29,6 @@ module _ {V : Type 0} (on : V → Type 0) (earlier : V → V → Type 0) (positi
     place_value = place_value;
     value_place = value_place;
     earlier_smaller = smaller;
-    total = λ v w o q. elim (three_ways (position v) (position w)) [
-      | inl s ↦ inl (same_place v w o q s)
-      | inr t ↦ inr (elim t [ inl l ↦ inl (by_places v w o q l) | inr g ↦ inr (by_places w v q o g) ])
-    ];
+    total = λ v w o q. grind (arith, same_place v w o q, by_places v w o q, by_places w v q o);
     chain = λ u v w a b c d e. let l = smaller u v a b d in let k = smaller v w b c e in by_places u w a c (omega arith);
   }

@@ -1,10 +1,11 @@
 -- Refusals: what each reason is called by number, which layer it belongs to, and where it points.
-use Rattle.std.specs.Prelude.{ℕ, min, List, codes}
+use Rattle.std.specs.Prelude.{◌≡◌, ℕ, min, List, ◌++◌, Result, MatchResult, ◌≢◌, codes, decimal}
 use Rattle.scales.specs.declared.refusal.Stop.{Stop}
 use Rattle.scales.specs.declared.refusal.Stop.TheVariants.{OffScale, BadScale, Undeclared, BoundCount, AlwaysMet, BadShape, OutOfDegrees, TextTooLong, UnknownBlock, NotResolvable, NotEverything, SettingsFull, RulesFull, AreaTooSmall, NotAllowed, NoSlotFree, RecordFull, EndMissing, AfterClosing}
 use Rattle.scales.specs.declared.refusal.Layer.{Layer}
 use Rattle.scales.specs.declared.refusal.Layer.TheVariants.{Scale, Sheet, Search, Judge, Text}
 use Rattle.scales.specs.declared.refusal.Refusal.{Refusal}
+use Rattle.scales.specs.declared.refusal.UnknownNumber.{UnknownNumber}
 
 -- 1 to 11 stop a call for what it was given, 20 to 27 for the state that it met
 abbrev pub number : Stop → ℕ
@@ -27,6 +28,10 @@ number NoSlotFree = 24
 number RecordFull = 25
 number EndMissing = 26
 number AfterClosing = 27
+
+-- the answer is the reason with this number, or an error with a number that no reason has
+abbrev pub Numbered : ℕ → Result Stop UnknownNumber → Type 0
+Numbered n answer = MatchResult answer (λ s. number s ≡ n) (λ e. (e.0 ≡ n) × ((s : Stop) → number s ≢ n))
 
 abbrev pub layer : Stop → Layer
 layer OffScale = Scale
@@ -89,3 +94,10 @@ no_place s = at_place s 0
 -- a refusal at the n-th line, from 1; the place stops at 99,999
 abbrev pub line_place : Stop → ℕ → Refusal
 line_place s n = at_place s (min n 99999)
+
+-- a refusal in full, as it is shown
+abbrev pub refusal_text : Refusal → List ℕ
+refusal_text r = codes "refused, number " ++ (decimal (number r.stop) ++ (codes ", layer " ++ (layer_name (layer r.stop) ++ (codes ", place " ++ (decimal r.place ++ (codes ": " ++ reason r.stop))))))
+
+abbrev pub unknown_text : UnknownNumber → List ℕ
+unknown_text e = codes "no reason has the number " ++ decimal e.0

@@ -1,90 +1,66 @@
-ghost use Rattle.std.specs.Prelude.{◌≡◌, ℕ, ◌-◌, ◌<◌, ◌≤◌, length, take, MatchBool, ◌≢◌, slice_index};
+ghost use Rattle.std.specs.Prelude.{◌≡◌, ◌-◌, length, slice_index};
+ghost use Rattle.rows.specs.Items.{items};
 ghost use Rattle.scales.specs.Checks.{Outcome};
-ghost use Rattle.scales.specs.Grades.{Printing, Different, Among, Before, first_at, list_checks};
-ghost use Rattle.scales.specs.Listed.{front_laws};
+ghost use Rattle.scales.specs.Grades.{GoodList, Among, Before, first_at, list_checks};
+ghost use Rattle.scales.specs.Listed.{grade_laws};
 
 use crate::refusal::{Refusal, Stop};
 use crate::scale::Scale;
+use rows::row::Row;
 
-// One to sixteen different printing bytes, in the order given: the first len of the array.
+// One to sixteen different printing bytes, in the order given.
 #[derive(Clone, Copy)]
 pub struct Grade {
-    bytes: [u8; 16],
-    len: usize,
-    ghost one: { 1 ≤ len },
-    ghost few: { len ≤ 16 },
-    ghost whole: { length bytes ≡ 16 },
-    ghost printing: { Printing bytes len },
-    ghost different: { Different bytes len },
-}
-
-// Whether b is among the first n.
-fn holds(bytes: &[u8; 16], n: usize, b: u8) -> bool
-    requires { n ≤ 16 }
-    ensures { MatchBool result ((i : ℕ) × (i < n) × (slice_index bytes.now i ≡ b)) ((i : ℕ) → i < n → slice_index bytes.now i ≢ b) }
-{
-    for i in 0..n {
-        if bytes[i] == b {
-            return true;
-        }
-    }
-    false
+    list: Row<u8, 16>,
+    ghost good: { GoodList (items list) },
 }
 
 impl Grade {
     // The scale of the bytes of a list, in its order.
     pub fn new(list: &[u8]) -> Result<Grade, Refusal>
-        ensures { Outcome (list_checks list.now) (λ g. take g.len g.bytes ≡ list.now) result }
+        ensures { Outcome (list_checks list.now) (λ g. items g.list ≡ list.now) result }
     {
-        let n = list.len();
-        if n == 0 || n > 16 {
+        if list.is_empty() {
             return Err(Refusal::of(Stop::BadScale));
         }
-        let mut bytes = [0; 16];
-        for i in 0..n {
-            let b = list[i];
-            if b < 33 || b > 126 || holds(&bytes, i, b) {
+        for (i, b) in list.iter().enumerate() {
+            if !b.is_ascii_graphic() || list[..i].contains(b) {
                 return Err(Refusal::of(Stop::BadScale));
             }
-            bytes[i] = b;
         }
-        Ok(Grade { bytes, len: n })
+        let list = Row::of(list, 0).map_err(|_| Refusal::of(Stop::BadScale))?;
+        Ok(Grade { list })
     }
 }
 
 impl Scale for Grade {
     type Value = u8;
 
-    ghost on = { λ g. Among (take g.len g.bytes) };
+    ghost on = { λ g. Among (items g.list) };
 
-    ghost earlier = { λ g. Before (take g.len g.bytes) };
+    ghost earlier = { λ g. Before (items g.list) };
 
-    ghost position = { λ g. first_at (take g.len g.bytes) };
+    ghost position = { λ g. first_at (items g.list) };
 
-    ghost standing = { λ g p. slice_index (take g.len g.bytes) p };
+    ghost standing = { λ g p. slice_index (items g.list) p };
 
-    ghost top = { λ g. length (take g.len g.bytes) - 1 };
+    ghost top = { λ g. length (items g.list) - 1 };
 
-    ghost keeps = { λ g. front_laws g.bytes g.len g.whole g.one g.few g.printing g.different };
+    ghost keeps = { λ g. grade_laws (items g.list) g.good };
 
     fn last(&self) -> u32 {
-        (self.len - 1) as u32
+        (self.list.len() - 1) as u32
     }
 
     fn place(&self, v: u8) -> Result<u32, Refusal> {
-        for i in 0..self.len {
-            if self.bytes[i] == v {
-                return Ok(i as u32);
-            }
+        match self.list.as_slice().iter().position(|b| *b == v) {
+            Some(i) => Ok(i as u32),
+            None => Err(Refusal::of(Stop::OffScale)),
         }
-        Err(Refusal::of(Stop::OffScale))
     }
 
     fn value(&self, p: u32) -> Result<u8, Refusal> {
-        let i = p as usize;
-        if i >= self.len {
-            return Err(Refusal::of(Stop::OffScale));
-        }
-        Ok(self.bytes[i])
+        let b = self.list.as_slice().get(p as usize);
+        b.copied().ok_or(Refusal::of(Stop::OffScale))
     }
 }

@@ -1,48 +1,52 @@
-ghost use Rattle.std.specs.Prelude.{◌≡◌, MatchOption, ◌≢◌};
+ghost use Rattle.std.specs.Prelude.{◌≡◌, Some};
+ghost use Rattle.std.specs.Fmt.{padded};
 ghost use Rattle.scales.specs.declared.refusal.Stop.{Stop};
-ghost use Rattle.scales.specs.Stops.{number, layer, reason, layer_name, no_place, line_place};
+ghost use Rattle.scales.specs.Stops.{number, layer, reason, layer_name, no_place, line_place, Numbered, unknown_text, refusal_text};
+
+use std::error::Error;
+use std::fmt;
 
 // Why a call was stopped, one case for each reason.
 #[derive(Clone, Copy, PartialEq, Eq, Debug)]
 pub enum Stop {
     // a value or a position that is not on the scale
-    OffScale,
+    OffScale = 1,
     // a window's end that is off its scale, ends that are reversed, or a bad list of grades
-    BadScale,
+    BadScale = 2,
     // a setting that is not declared
-    Undeclared,
+    Undeclared = 3,
     // a rule of no bound, or of more than four
-    BoundCount,
+    BoundCount = 4,
     // a rule that every profile meets
-    AlwaysMet,
+    AlwaysMet = 5,
     // a line of wrong shape, or without its byte 10
-    BadShape,
+    BadShape = 6,
     // quarter degrees out of their range
-    OutOfDegrees,
+    OutOfDegrees = 7,
     // a text that is too long
-    TextTooLong,
+    TextTooLong = 8,
     // a block that is unknown, or a slot that is empty or outside the work area
-    UnknownBlock,
+    UnknownBlock = 9,
     // two blocks that must not be resolved
-    NotResolvable,
+    NotResolvable = 10,
     // an end while the work block is not everything
-    NotEverything,
+    NotEverything = 11,
     // a thirteenth setting
-    SettingsFull,
+    SettingsFull = 20,
     // a forty-ninth rule
-    RulesFull,
+    RulesFull = 21,
     // a work area of fewer than 193 slots
-    AreaTooSmall,
+    AreaTooSmall = 22,
     // a line that the judge's state does not allow
-    NotAllowed,
+    NotAllowed = 23,
     // no slot that may be filled
-    NoSlotFree,
+    NoSlotFree = 24,
     // no room for a line more
-    RecordFull,
+    RecordFull = 25,
     // a record that is over without its end
-    EndMissing,
+    EndMissing = 26,
     // a setting declared after the settings were closed
-    AfterClosing,
+    AfterClosing = 27,
 }
 
 // The part of the product that stops a call.
@@ -56,68 +60,25 @@ pub enum Layer {
 }
 
 // A refusal: the reason, and where in the input it lies.
-// The place counts bounds or lines from 1, and is 0 where there is nothing to count.
+// The place counts bounds or lines from 1, and is 0 where there is nothing to count: it is the number
+// that users are told, and no Option.
 #[derive(Clone, Copy, PartialEq, Eq, Debug)]
 pub struct Refusal {
     pub stop: Stop,
     pub place: u32,
 }
 
+// A number that no reason has.
+#[derive(Clone, Copy, PartialEq, Eq, Debug)]
+pub struct UnknownNumber(pub u32);
+
 impl Stop {
-    // The number by which users know this reason. No other reason has it.
+    // The number by which users know this reason. No other reason has it, which a From could not say.
     pub fn number(self) -> u8
         ensures answer { result ≡ number self }
         ensures only { (other : Stop) → number other ≡ result → other ≡ self }
     {
-        match self {
-            Stop::OffScale => 1,
-            Stop::BadScale => 2,
-            Stop::Undeclared => 3,
-            Stop::BoundCount => 4,
-            Stop::AlwaysMet => 5,
-            Stop::BadShape => 6,
-            Stop::OutOfDegrees => 7,
-            Stop::TextTooLong => 8,
-            Stop::UnknownBlock => 9,
-            Stop::NotResolvable => 10,
-            Stop::NotEverything => 11,
-            Stop::SettingsFull => 20,
-            Stop::RulesFull => 21,
-            Stop::AreaTooSmall => 22,
-            Stop::NotAllowed => 23,
-            Stop::NoSlotFree => 24,
-            Stop::RecordFull => 25,
-            Stop::EndMissing => 26,
-            Stop::AfterClosing => 27,
-        }
-    }
-
-    // The reason that has this number; none where no reason has it.
-    pub fn numbered(given: u32) -> Option<Stop>
-        ensures { MatchOption result ((s : Stop) → number s ≢ given) (λ s. number s ≡ given) }
-    {
-        match given {
-            1 => Some(Stop::OffScale),
-            2 => Some(Stop::BadScale),
-            3 => Some(Stop::Undeclared),
-            4 => Some(Stop::BoundCount),
-            5 => Some(Stop::AlwaysMet),
-            6 => Some(Stop::BadShape),
-            7 => Some(Stop::OutOfDegrees),
-            8 => Some(Stop::TextTooLong),
-            9 => Some(Stop::UnknownBlock),
-            10 => Some(Stop::NotResolvable),
-            11 => Some(Stop::NotEverything),
-            20 => Some(Stop::SettingsFull),
-            21 => Some(Stop::RulesFull),
-            22 => Some(Stop::AreaTooSmall),
-            23 => Some(Stop::NotAllowed),
-            24 => Some(Stop::NoSlotFree),
-            25 => Some(Stop::RecordFull),
-            26 => Some(Stop::EndMissing),
-            27 => Some(Stop::AfterClosing),
-            _ => None,
-        }
+        self as u8
     }
 
     // The part of the product that stops a call for this reason.
@@ -188,7 +149,7 @@ impl Layer {
 }
 
 impl Refusal {
-    // A refusal with nothing to count.
+    // A refusal with nothing to count. It is no From: a call says by the name that there is no place.
     pub fn of(stop: Stop) -> Refusal
         ensures { result ≡ no_place stop }
     {
@@ -205,3 +166,85 @@ impl Refusal {
         }
     }
 }
+
+// The reason that has a number. No derive gives it.
+impl TryFrom<u32> for Stop {
+    type Error = UnknownNumber;
+
+    ghost try_from_gives = { Numbered };
+
+    fn try_from(given: u32) -> Result<Stop, UnknownNumber> {
+        match given {
+            1 => Ok(Stop::OffScale),
+            2 => Ok(Stop::BadScale),
+            3 => Ok(Stop::Undeclared),
+            4 => Ok(Stop::BoundCount),
+            5 => Ok(Stop::AlwaysMet),
+            6 => Ok(Stop::BadShape),
+            7 => Ok(Stop::OutOfDegrees),
+            8 => Ok(Stop::TextTooLong),
+            9 => Ok(Stop::UnknownBlock),
+            10 => Ok(Stop::NotResolvable),
+            11 => Ok(Stop::NotEverything),
+            20 => Ok(Stop::SettingsFull),
+            21 => Ok(Stop::RulesFull),
+            22 => Ok(Stop::AreaTooSmall),
+            23 => Ok(Stop::NotAllowed),
+            24 => Ok(Stop::NoSlotFree),
+            25 => Ok(Stop::RecordFull),
+            26 => Ok(Stop::EndMissing),
+            27 => Ok(Stop::AfterClosing),
+            _ => Err(UnknownNumber(given)),
+        }
+    }
+}
+
+// A reason is shown in words.
+impl fmt::Display for Stop {
+    ghost output = { λ s. Some (reason s) };
+
+    ghost styled_output = { λ s spec. Some (padded spec (reason s)) };
+
+    fn fmt<W: fmt::Write>(&self, f: &mut fmt::Formatter<W>) -> fmt::Result {
+        f.pad(self.reason())
+    }
+}
+
+// A layer is shown by its name.
+impl fmt::Display for Layer {
+    ghost output = { λ l. Some (layer_name l) };
+
+    ghost styled_output = { λ l spec. Some (padded spec (layer_name l)) };
+
+    fn fmt<W: fmt::Write>(&self, f: &mut fmt::Formatter<W>) -> fmt::Result {
+        f.pad(self.name())
+    }
+}
+
+// A refusal in full: its number, its layer, its place and its reason.
+impl fmt::Display for Refusal {
+    ghost output = { λ r. Some (refusal_text r) };
+
+    fn fmt<W: fmt::Write>(&self, f: &mut fmt::Formatter<W>) -> fmt::Result {
+        let stop = self.stop;
+        let number = stop.number();
+        let layer = stop.layer();
+        let place = self.place;
+        write!(
+            f,
+            "refused, number {number}, layer {layer}, place {place}: {stop}"
+        )
+    }
+}
+
+impl Error for Refusal {}
+
+impl fmt::Display for UnknownNumber {
+    ghost output = { λ e. Some (unknown_text e) };
+
+    fn fmt<W: fmt::Write>(&self, f: &mut fmt::Formatter<W>) -> fmt::Result {
+        write!(f, "no reason has the number {}", self.0)
+    }
+}
+
+impl Error for UnknownNumber {}

@@ -1,5 +1,8 @@
-ghost use Rattle.std.specs.Prelude.{MatchBool};
-ghost use Rattle.scales.specs.Sides.{Meets};
+ghost use Rattle.std.specs.Prelude.{MatchBool, Some};
+ghost use Rattle.std.specs.Fmt.{padded};
+ghost use Rattle.scales.specs.Sides.{Meets, side_words};
+
+use std::fmt;
 
 // The side of a position that a bound keeps to.
 #[derive(Clone, Copy, PartialEq, Eq, Debug)]
@@ -17,5 +20,19 @@ impl Side {
             Side::AtMost => position <= limit,
             Side::AtLeast => position >= limit,
         }
+    }
+}
+
+// A side is shown as it stands before a limit.
+impl fmt::Display for Side {
+    ghost output = { λ s. Some (side_words s) };
+
+    ghost styled_output = { λ s spec. Some (padded spec (side_words s)) };
+
+    fn fmt<W: fmt::Write>(&self, f: &mut fmt::Formatter<W>) -> fmt::Result {
+        f.pad(match self {
+            Side::AtMost => "at most",
+            Side::AtLeast => "at least",
+        })
     }
 }

@@ -1,51 +1,44 @@
 -- An analysis of the program, entry by entry.
-use Rattle.std.proofs.Common.{◌≡◌, ℕ, zero, suc, ◌-◌, ◌<◌, ◌≤◌, List, [], ◌∷◌, ◌++◌, get_or, Some, Option, sym, refl, ap, ◌∙◌, subst, subst₂, append_assoc, append-nil, arith}
+use Rattle.std.proofs.Common.{◌≡◌, ℕ, suc, ◌<◌, ◌≤◌, List, [], ◌∷◌, ◌++◌, length, get_or, take, Some, None, Option, sym, refl, ap, ◌∙◌, subst, subst₂, append_assoc, append-nil, length-append, arith}
+use Rattle.std.proofs.Math.Seq.{take-append_seam}
+use Rattle.std.proofs.lemmas.List.{get_or-take, get_or_push, take-take}
 use Rattle.blocks.specs.declared.bound.Bound.{Bound}
 use Rattle.blocks.specs.declared.line.Line.{Line}
 use Rattle.blocks.specs.Lines.{r_line, e_line}
 use Rattle.blocks.specs.Bounds.{setting}
-use Rattle.blocks.specs.Ranges.{Ranges, Stands, Inside, with_end, narrow, resolve, Resolvable}
+use Rattle.blocks.specs.Ranges.{Ranges, Stands, Inside, end, with_end, narrow, resolve, Resolvable}
 use Rattle.blocks.specs.Sheets.{Sheet, Proper, block_at}
 use Rattle.blocks.specs.Sinks.{Step}
 use Rattle.blocks.specs.Views.{Real}
 use Rattle.blocks.proofs.Numbers.{Lawful}
 use Rattle.blocks.proofs.Ranging.{broken_inside, undo_narrow}
-use Rattle.search.specs.declared.analyse.Fell.TheVariants.{Over, Before}
-use Rattle.search.specs.declared.trail.Reason.{Reason}
-use Rattle.search.specs.declared.trail.Reason.TheVariants.{Decided, Forced}
 use Rattle.search.specs.declared.trail.Trail.{Trail}
 use Rattle.search.specs.declared.trail.TrailEntry.{TrailEntry}
 use Rattle.search.specs.Search.{Entry, forced, region, Outcome, learnt, over, Analysis, out, pass, into, stop}
 use Rattle.search.specs.Tallies.{Feed, fed, fed_all}
-use Rattle.search.specs.Trails.{reasoned, entry_of, no_entry, trail_below, trail_of, KeepsEnds}
+use Rattle.search.specs.Trails.{Reason, reasoned, entry_of, no_entry, trail_below, trail_of, KeepsEnds}
 use Rattle.search.specs.Analyses.{Ready, Analysed}
 use Rattle.search.proofs.Feeding.{fed_more}
 use Rattle.search.proofs.Trailing.{reasoned_bound}
 use Rattle.search.proofs.Sound.{Sound, sound_open, region_stands, steps_good, good_start, resolved}
 
 -- the entries from the n-th backward, and what is left of the analysis
-module _ {M : Type 0} (step : M → Line → Step M) (S : Sheet) (pr : Proper S) (slots : ℕ → Option Ranges) (t : Trail) (w₀ : Ranges) (f₀ : Feed M) where
-  abbrev blocks : ℕ → Option Ranges
-  blocks = block_at S.rules slots
+pub record Midway {M : Type 0} (step : M → Line → Step M) (S : Sheet) (pr : Proper S) (slots : ℕ → Option Ranges) (t : Trail) (w₀ : Ranges) (f₀ : Feed M) (n : ℕ) (g w : Ranges) (f : Feed M) : Type 0 where
+  pub few : n ≤ length t.entries.items
+  pub done : List Line
+  pub told : f ≡ fed_all step f₀ done
+  pub leads : (ls : List Line) (o : Outcome) → Analysis S.last (block_at S.rules slots) (trail_below t.entries.items n) w ls o
+      → Analysis S.last (block_at S.rules slots) (trail_of t) w₀ (done ++ ls) o
+  pub left : g ≡ region S.last (trail_below t.entries.items n)
+  pub lawful : Lawful S (block_at S.rules slots)
+  pub sound : Sound S.last (block_at S.rules slots) (trail_below t.entries.items n)
+  pub inside : Inside g w
+  pub stands : Stands S.last w
+  pub ends : KeepsEnds S.last t.entries.items
 
-  abbrev xs : List TrailEntry
-  xs = t.entries
-
-  pub record Midway (n : ℕ) (g w : Ranges) (f : Feed M) : Type 0 where
-    pub few : n ≤ t.len
-    pub done : List Line
-    pub told : f ≡ fed_all step f₀ done
-    pub leads : (ls : List Line) (o : Outcome) → Analysis S.last (block_at S.rules slots) (trail_below t.entries n) w ls o
-        → Analysis S.last (block_at S.rules slots) (trail_of t) w₀ (done ++ ls) o
-    pub left : g ≡ region S.last (trail_below t.entries n)
-    pub lawful : Lawful S (block_at S.rules slots)
-    pub sound : Sound S.last (block_at S.rules slots) (trail_below t.entries n)
-    pub inside : Inside g w
-    pub stands : Stands S.last w
-    pub ends : KeepsEnds S.last t.entries t.len
-
-  pub midway_start : (g : Ranges) → Ready S slots t g w₀ → Midway t.len g w₀ f₀
-  midway_start g r =
+module _ {M : Type 0} {step : M → Line → Step M} {S : Sheet} {pr : Proper S} {slots : ℕ → Option Ranges} {t : Trail} {w₀ : Ranges} {f₀ : Feed M} where
+  pub midway_start : {g : Ranges} → Ready S slots t g w₀ → Midway step S pr slots t w₀ f₀ (length t.entries.items) g w₀ f₀
+  midway_start {g} r =
       let good = steps_good S r.room r.steps (good_start S pr) in
       let gs = subst (Stands S.last) (sym r.left) (region_stands S.last (block_at S.rules slots) (trail_of t) good.trail) in
       record {
@@ -61,47 +54,84 @@ module _ {M : Type 0} (step : M → Line → Step M) (S : Sheet) (pr : Proper S)
         ends = r.ends;
       }
 
-  -- one entry back
-  module _ (n : ℕ) (g w : Ranges) (f : Feed M) (mid : Midway (suc n) g w f) where
-    abbrev e : TrailEntry
-    e = get_or t.entries n no_entry
+  module _ {n : ℕ} {g w : Ranges} {f : Feed M} (mid : Midway step S pr slots t w₀ f₀ n g w f) where
+    -- the entries ran out
+    pub midway_over : (0 < n → ⊥) → {f' : Feed M} → f' ≡ fed step f e_line → Analysed step S slots t w₀ f₀ None g w f'
+    midway_over l tell = record {
+      lines = mid.done ++ e_line ∷ [];
+      analysis = mid.leads (e_line ∷ []) over (subst (λ (k : ℕ). Analysis S.last (block_at S.rules slots) (trail_below t.entries.items k) w (e_line ∷ []) over) none out);
+      told = tell ∙ ap (λ (x : Feed M). fed step x e_line) mid.told ∙ sym (fed_more step f₀ mid.done (e_line ∷ []));
+      left = tt;
+    }
+      where
+        none : 0 ≡ n
+        none = omega arith
 
-    before : Ranges
-    before = region S.last (trail_below t.entries n)
+  -- one entry back, which is x
+  module _ {ys : List TrailEntry} {g w : Ranges} {f : Feed M} (mid₀ : Midway step S pr slots t w₀ f₀ (length ys) g w f) (front : ys ≡ take (length ys) t.entries.items) (ys' : List TrailEntry) (x : TrailEntry) (last : ys ≡ ys' ++ x ∷ []) where
+    longer : length ys ≡ suc (length ys')
+    longer = omega (arith, ap length last, length-append ys' (x ∷ []))
 
-    opened : Sound S.last (block_at S.rules slots) (trail_below t.entries n)
-    opened = (sound_open S.last (block_at S.rules slots) (entry_of (get_or t.entries n no_entry)) (trail_below t.entries n) mid.sound).1
+    mid : Midway step S pr slots t w₀ f₀ (suc (length ys')) g w f
+    mid = subst (λ (n : ℕ). Midway step S pr slots t w₀ f₀ n g w f) longer mid₀
 
-    narrowed : g ≡ narrow (get_or t.entries n no_entry).bound (region S.last (trail_below t.entries n))
-    narrowed = mid.left ∙ ap (λ (β : Bound). narrow β (region S.last (trail_below t.entries n))) (reasoned_bound (get_or t.entries n no_entry).bound (get_or t.entries n no_entry).reason)
+    ex : x ≡ get_or t.entries.items (length ys') no_entry
+    ex = sym (get_or_push ys' x no_entry (length ys') refl) ∙ ap (λ (zs : List TrailEntry). get_or zs (length ys') no_entry) (sym last ∙ front) ∙ get_or-take (length ys) t.entries.items (length ys') no_entry (omega (arith, longer))
 
-    pub undone : with_end (get_or t.entries n no_entry).bound (get_or t.entries n no_entry).end g ≡ region S.last (trail_below t.entries n)
+    -- the rest is a front too
+    pub rest_front : ys' ≡ take (length ys') t.entries.items
+    rest_front = sym (take-append_seam ys' (x ∷ [])) ∙ ap (take (length ys')) (sym last ∙ front) ∙ take-take (length ys') (length ys) t.entries.items (omega (arith, longer))
+
+    split : trail_below t.entries.items (suc (length ys')) ≡ reasoned x.bound x.reason ∷ trail_below t.entries.items (length ys')
+    split = λ i. entry_of (sym ex i) ∷ trail_below t.entries.items (length ys')
+
+    known : Sound S.last (block_at S.rules slots) (reasoned x.bound x.reason ∷ trail_below t.entries.items (length ys'))
+    known = subst (Sound S.last (block_at S.rules slots)) split mid.sound
+
+    opened : Sound S.last (block_at S.rules slots) (trail_below t.entries.items (length ys'))
+    opened = (sound_open S.last (block_at S.rules slots) (reasoned x.bound x.reason) (trail_below t.entries.items (length ys')) known).1
+
+    narrowed : g ≡ narrow x.bound (region S.last (trail_below t.entries.items (length ys')))
+    narrowed = mid.left ∙ ap (region S.last) split ∙ ap (λ (β : Bound). narrow β (region S.last (trail_below t.entries.items (length ys')))) (reasoned_bound x.bound x.reason)
+
+    kept : x.end ≡ end x.bound (region S.last (trail_below t.entries.items (length ys')))
+    kept =
+        let few = mid.few in
+        ap (λ (y : TrailEntry). y.end) ex ∙ mid.ends (length ys') (omega arith) ∙ sym (ap (λ (y : TrailEntry). end y.bound (region S.last (trail_below t.entries.items (length ys')))) ex)
+
+    undone : with_end x.bound x.end g ≡ region S.last (trail_below t.entries.items (length ys'))
     undone =
-        let β = (get_or t.entries n no_entry).bound in
-        ap (with_end β (get_or t.entries n no_entry).end) narrowed
-        ∙ ap (λ (p : ℕ). with_end β p (narrow β (region S.last (trail_below t.entries n)))) (mid.ends n (let k = mid.few in omega arith))
-        ∙ undo_narrow β (region S.last (trail_below t.entries n))
+        ap (with_end x.bound x.end) narrowed
+        ∙ ap (λ (p : ℕ). with_end x.bound p (narrow x.bound (region S.last (trail_below t.entries.items (length ys'))))) kept
+        ∙ undo_narrow x.bound (region S.last (trail_below t.entries.items (length ys')))
 
-    region_there : Stands S.last (region S.last (trail_below t.entries n))
-    region_there = region_stands S.last (block_at S.rules slots) (trail_below t.entries n) opened
-
-    pub undone_real : Real (with_end (get_or t.entries n no_entry).bound (get_or t.entries n no_entry).end g)
+    pub undone_real : Real (with_end x.bound x.end g)
     undone_real = subst Real (sym undone) (record {
-      ordered = λ i. (region_there i).0;
-      twelve = λ i l. let s = region_there i in let b = pr.beyond i (let c = pr.twelve in omega arith) in omega arith;
+      ordered = λ i. (there i).0;
+      twelve = λ i l. let s = there i in let b = pr.beyond i (let c = pr.twelve in omega arith) in omega arith;
     })
+      where
+        there : Stands S.last (region S.last (trail_below t.entries.items (length ys')))
+        there = region_stands S.last (block_at S.rules slots) (trail_below t.entries.items (length ys')) opened
 
-    module _ (h : Ranges) (is : h ≡ with_end (get_or t.entries n no_entry).bound (get_or t.entries n no_entry).end g) where
-      here : h ≡ region S.last (trail_below t.entries n)
+    leads : (ls : List Line) (o : Outcome) → Analysis S.last (block_at S.rules slots) (reasoned x.bound x.reason ∷ trail_below t.entries.items (length ys')) w ls o
+        → Analysis S.last (block_at S.rules slots) (trail_of t) w₀ (mid.done ++ ls) o
+    leads ls o a = mid.leads ls o (subst (λ (u : List Entry). Analysis S.last (block_at S.rules slots) u w ls o) (sym split) a)
+
+    module _ {h : Ranges} (is : h ≡ with_end x.bound x.end g) where
+      here : h ≡ region S.last (trail_below t.entries.items (length ys'))
       here = is ∙ undone
 
+      needed : (Inside h w → ⊥) → Inside (region S.last (trail_below t.entries.items (length ys'))) w → ⊥
+      needed out' i = out' (subst (λ (y : Ranges). Inside y w) (sym here) i)
+
       -- not needed
-      pub midway_pass : Inside h w → Midway n h w f
+      pub midway_pass : Inside h w → Midway step S pr slots t w₀ f₀ (length ys') h w f
       midway_pass i = record {
         few = let k = mid.few in omega arith;
         done = mid.done;
         told = mid.told;
-        leads = λ ls o a. mid.leads ls o (pass (subst (λ (x : Ranges). Inside x w) here i) a);
+        leads = λ ls o a. leads ls o (pass (subst (λ (y : Ranges). Inside y w) here i) a);
         left = here;
         lawful = mid.lawful;
         sound = opened;
@@ -111,101 +141,45 @@ module _ {M : Type 0} (step : M → Line → Step M) (S : Sheet) (pr : Proper S)
       }
 
       -- needed and decided
-      pub midway_stop : (Inside h w → ⊥) → (get_or t.entries n no_entry).reason ≡ Decided → Analysed step S slots t w₀ f₀ (Before n) h w f
+      pub midway_stop : (Inside h w → ⊥) → x.reason ≡ None → Analysed step S slots t w₀ f₀ (Some (length ys')) h w f
       midway_stop out' r = record {
         lines = mid.done;
-        analysis = subst (λ (ls : List Line). Analysis S.last (block_at S.rules slots) (trail_of t) w₀ ls (learnt w (trail_below t.entries n))) (append-nil mid.done)
-            (mid.leads [] (learnt w (trail_below t.entries n))
-            (subst (λ (x : Entry). Analysis S.last (block_at S.rules slots) (x ∷ trail_below t.entries n) w [] (learnt w (trail_below t.entries n)))
-            (sym (ap (reasoned (get_or t.entries n no_entry).bound) r)) (stop (λ i. out' (subst (λ (x : Ranges). Inside x w) (sym here) i)))));
+        analysis = subst (λ (ls : List Line). Analysis S.last (block_at S.rules slots) (trail_of t) w₀ ls (learnt w (trail_below t.entries.items (length ys')))) (append-nil mid.done)
+            (leads [] (learnt w (trail_below t.entries.items (length ys')))
+            (subst (λ (y : Reason). Analysis S.last (block_at S.rules slots) (reasoned x.bound y ∷ trail_below t.entries.items (length ys')) w [] (learnt w (trail_below t.entries.items (length ys')))) (sym r) (stop (needed out'))));
         told = mid.told;
         left = (let k = mid.few in omega arith, here);
       }
 
       -- needed, with a reason
-      module _ (k : ℕ) (r : (get_or t.entries n no_entry).reason ≡ Forced k) where
-        abbrev β : Bound
-        β = (get_or t.entries n no_entry).bound
+      module _ {k : ℕ} (r : x.reason ≡ Some k) where
+        because : Sound S.last (block_at S.rules slots) (forced x.bound k ∷ trail_below t.entries.items (length ys'))
+        because = subst (λ (y : Reason). Sound S.last (block_at S.rules slots) (reasoned x.bound y ∷ trail_below t.entries.items (length ys'))) r known
 
-        known : Sound S.last (block_at S.rules slots) (forced (get_or t.entries n no_entry).bound k ∷ trail_below t.entries n)
-        known = subst (λ (x : Entry). Sound S.last (block_at S.rules slots) (x ∷ trail_below t.entries n)) (ap (reasoned (get_or t.entries n no_entry).bound) r) mid.sound
+        into_it : Resolvable (setting x.bound) w because.2.0 × Inside (region S.last (trail_below t.entries.items (length ys'))) (resolve (setting x.bound) w because.2.0) × Stands S.last (resolve (setting x.bound) w because.2.0)
+        into_it = resolved S (block_at S.rules slots) mid.lawful x.bound k because.2.0 (trail_below t.entries.items (length ys')) w because.2.1 because (subst (λ (y : Ranges). Inside y w) narrowed mid.inside) mid.stands
 
-        pub reason_block : (b : Ranges) × (block_at S.rules slots k ≡ Some b) × Resolvable (setting (get_or t.entries n no_entry).bound) w b
-        reason_block =
-            let s = known.2 in
-            (s.0, s.1, (resolved S (block_at S.rules slots) mid.lawful β k s.0 (trail_below t.entries n) w s.1 known (subst (λ (x : Ranges). Inside x w) narrowed mid.inside) mid.stands).0)
+        pub reason_block : {s : ℕ} → s ≡ setting x.bound → (b : Ranges) × (block_at S.rules slots k ≡ Some b) × Resolvable s w b
+        reason_block e = (because.2.0, because.2.1, subst (λ (i : ℕ). Resolvable i w because.2.0) (sym e) into_it.0)
 
-        pub midway_into : (Inside h w → ⊥) → (v : Ranges) → ((b : Ranges) → block_at S.rules slots k ≡ Some b → v ≡ resolve (setting (get_or t.entries n no_entry).bound) w b)
-            → (f' : Feed M) → f' ≡ fed step f (r_line k (setting (get_or t.entries n no_entry).bound)) → Midway n h v f'
-        midway_into out' v made f' tell =
-            let s = known.2 in
-            let b = s.0 in
-            let did = resolved S (block_at S.rules slots) mid.lawful β k b (trail_below t.entries n) w s.1 known (subst (λ (x : Ranges). Inside x w) narrowed mid.inside) mid.stands in
-            let l = r_line k (setting (get_or t.entries n no_entry).bound) in
-            let ev = made b s.1 in
+        pub midway_into : {s : ℕ} → s ≡ setting x.bound → (Inside h w → ⊥) → {v : Ranges} → ((b : Ranges) → block_at S.rules slots k ≡ Some b → v ≡ resolve s w b)
+            → {f' : Feed M} → f' ≡ fed step f (r_line k s) → Midway step S pr slots t w₀ f₀ (length ys') h v f'
+        midway_into {s} e out' {v} made {f'} tell =
+            let l = r_line k (setting x.bound) in
+            let ev : v ≡ resolve (setting x.bound) w because.2.0 = made because.2.0 because.2.1 ∙ ap (λ (i : ℕ). resolve i w because.2.0) e in
             record {
               few = let q = mid.few in omega arith;
               done = mid.done ++ l ∷ [];
-              told = tell ∙ ap (λ (x : Feed M). fed step x l) mid.told ∙ sym (fed_more step f₀ mid.done (l ∷ []));
+              told = tell ∙ ap (λ (i : ℕ). fed step f (r_line k i)) e ∙ ap (λ (y : Feed M). fed step y l) mid.told ∙ sym (fed_more step f₀ mid.done (l ∷ []));
               leads = λ ls o a.
                   subst (λ (ks : List Line). Analysis S.last (block_at S.rules slots) (trail_of t) w₀ ks o) (sym (append_assoc mid.done (l ∷ []) ls))
-                  (mid.leads (l ∷ ls) o
-                  (subst (λ (x : Entry). Analysis S.last (block_at S.rules slots) (x ∷ trail_below t.entries n) w (l ∷ ls) o) (sym (ap (reasoned β) r))
-                  (into (λ i. out' (subst (λ (x : Ranges). Inside x w) (sym here) i)) s.1 (subst (λ (x : Ranges). Analysis S.last (block_at S.rules slots) (trail_below t.entries n) x ls o) ev a))));
+                  (leads (l ∷ ls) o
+                  (subst (λ (y : Reason). Analysis S.last (block_at S.rules slots) (reasoned x.bound y ∷ trail_below t.entries.items (length ys')) w (l ∷ ls) o) (sym r)
+                  (into (needed out') because.2.1 (subst (λ (y : Ranges). Analysis S.last (block_at S.rules slots) (trail_below t.entries.items (length ys')) y ls o) ev a))));
               left = here;
               lawful = mid.lawful;
               sound = opened;
-              inside = subst₂ Inside (sym here) (sym ev) did.1;
-              stands = subst (Stands S.last) (sym ev) did.2;
+              inside = subst₂ Inside (sym here) (sym ev) into_it.1;
+              stands = subst (Stands S.last) (sym ev) into_it.2;
               ends = mid.ends;
             }
-
-  -- the entries ran out
-  pub midway_over : (n : ℕ) (g w : Ranges) (f : Feed M) → n ≤ 0 → Midway n g w f → (f' : Feed M) → f' ≡ fed step f e_line → Analysed step S slots t w₀ f₀ Over g w f'
-  midway_over zero g w f l mid f' tell = record {
-    lines = mid.done ++ e_line ∷ [];
-    analysis = mid.leads (e_line ∷ []) over out;
-    told = tell ∙ ap (λ (x : Feed M). fed step x e_line) mid.told ∙ sym (fed_more step f₀ mid.done (e_line ∷ []));
-    left = tt;
-  }
-  midway_over (suc n) g w f l mid f' tell = absurd (omega arith)
-
-  -- the same at an entry that was read
-  module _ (n : ℕ) (g w : Ranges) (f : Feed M) (pos : 0 < n) (mid : Midway n g w f) (x : TrailEntry) (ex : x ≡ get_or t.entries (n - 1) no_entry) where
-    one_back : Midway (suc (n - 1)) g w f
-    one_back = let q : n ≡ suc (n - 1) = omega arith in subst (λ (k : ℕ). Midway k g w f) q mid
-
-    read : (P : TrailEntry → Type 0) → P (get_or t.entries (n - 1) no_entry) → P x
-    read P p = subst P (sym ex) p
-
-    pub read_real : Real (with_end x.bound x.end g)
-    read_real = read (λ (y : TrailEntry). Real (with_end y.bound y.end g)) (undone_real (n - 1) g w f one_back)
-
-    module _ (h : Ranges) (is : h ≡ with_end x.bound x.end g) where
-      there : h ≡ with_end (get_or t.entries (n - 1) no_entry).bound (get_or t.entries (n - 1) no_entry).end g
-      there = is ∙ ap (λ (y : TrailEntry). with_end y.bound y.end g) ex
-
-      pub read_pass : Inside h w → Midway (n - 1) h w f
-      read_pass i = midway_pass (n - 1) g w f one_back h there i
-
-      pub read_stop : (Inside h w → ⊥) → ((k : ℕ) → x.reason ≡ Forced k → ⊥) → Analysed step S slots t w₀ f₀ (Before (n - 1)) h w f
-      read_stop out' none = midway_stop (n - 1) g w f one_back h there out' (sym (ap (λ (y : TrailEntry). y.reason) ex) ∙ decided_else x.reason none)
-        where
-          decided_else : (r : Reason) → ((k : ℕ) → r ≡ Forced k → ⊥) → r ≡ Decided
-          decided_else Decided n = refl
-          decided_else (Forced k) n = absurd (n k refl)
-
-      module _ (k : ℕ) (r : x.reason ≡ Forced k) where
-        because : (get_or t.entries (n - 1) no_entry).reason ≡ Forced k
-        because = sym (ap (λ (y : TrailEntry). y.reason) ex) ∙ r
-
-        pub read_block : (s : ℕ) → s ≡ setting x.bound → (b : Ranges) × (block_at S.rules slots k ≡ Some b) × Resolvable s w b
-        read_block s e =
-            let p = reason_block (n - 1) g w f one_back h there k because in
-            (p.0, p.1, subst (λ (i : ℕ). Resolvable i w p.0) (sym (e ∙ ap (λ (y : TrailEntry). setting y.bound) ex)) p.2)
-
-        pub read_into : (s : ℕ) → s ≡ setting x.bound → (Inside h w → ⊥) → (v : Ranges) → ((b : Ranges) → block_at S.rules slots k ≡ Some b → v ≡ resolve s w b)
-            → (f' : Feed M) → f' ≡ fed step f (r_line k s) → Midway (n - 1) h v f'
-        read_into s e out' v made f' tell =
-            let q = e ∙ ap (λ (y : TrailEntry). setting y.bound) ex in
-            midway_into (n - 1) g w f one_back h there k because out' v (λ b z. made b z ∙ ap (λ (i : ℕ). resolve i w b) q) f' (tell ∙ ap (λ (i : ℕ). fed step f (r_line k i)) q)

@@ -2,19 +2,18 @@
 use Rattle.std.proofs.Common.{◌≡◌, ℕ, suc, ◌+◌, ◌<◌, ◌≤◌, eqb, List, [], ◌∷◌, ◌++◌, length, take, Some, None, Option, sym, refl, ap, ◌∙◌, subst, subst₂, inl, inr, arith}
 use Rattle.std.specs.Map.{update}
 use Rattle.std.proofs.lemmas.Bool.{cases_lt}
+use Rattle.std.proofs.lemmas.List.{length-take-le}
+use Rattle.std.proofs.lemmas.Option.{none-some}
 use Rattle.blocks.specs.declared.line.Line.{Line}
-use Rattle.blocks.specs.declared.slot.Slot.{Slot}
 use Rattle.blocks.specs.Lines.{t_line, k_line}
 use Rattle.blocks.specs.Ranges.{Ranges, Stands}
 use Rattle.blocks.specs.Sheets.{Sheet, Proper, block_at}
 use Rattle.blocks.specs.Sinks.{Step as SinkStep}
-use Rattle.blocks.specs.Slots.{slot_at}
+use Rattle.blocks.specs.Slots.{Slot, slot_at}
 use Rattle.blocks.specs.Status.{Broken, Forces}
 use Rattle.blocks.specs.Views.{ranges}
 use Rattle.blocks.proofs.Numbers.{block_at_slot}
 use Rattle.blocks.proofs.Ranging.{covers_forces}
-use Rattle.search.specs.declared.analyse.Fell.{Fell}
-use Rattle.search.specs.declared.analyse.Fell.TheVariants.{Over, Before}
 use Rattle.search.specs.declared.course.Course.{Course}
 use Rattle.search.specs.declared.moves.Ended.{Ended}
 use Rattle.search.specs.declared.moves.Ended.TheVariants.{Nothing}
@@ -26,8 +25,9 @@ use Rattle.search.specs.Analyses.{Ready, Analysed, outcome_of}
 use Rattle.search.specs.Moves.{Going, Goes, Stops, Moved, BreaksFirst, Learnt, Keeps, KeepsIn, KeepsNone}
 use Rattle.search.proofs.Feeding.{fed_more}
 use Rattle.search.proofs.Sound.{Sound, Good, Came, region_stands, steps_good, good_start, conflict_sound}
-use Rattle.search.proofs.Keeping.{slot_take_past}
-use Rattle.search.proofs.Total.{none_some}
+use Rattle.search.proofs.Slots.{slot_take_past}
+use Rattle.search.proofs.Listing.{trail_192}
+use Rattle.search.proofs.Trailing.{below_take, keeps_take, length_below}
 
 -- a reason is a block
 reason_known : (last : ℕ → ℕ) (blocks : ℕ → Option Ranges) (t : List Entry) (k : ℕ) → Sound last blocks t → IsReason t k → (b : Ranges) × (blocks k ≡ Some b)
@@ -64,31 +64,37 @@ module _ {M : Type 0} (step : M → Line → SinkStep M) (S : Sheet) (pr : Prope
         same p q = cc
 
     module _ (f f₂ : Feed M) (g' w' : Ranges) where
-      conflict : (r : Fell) (a : Analysed step S (slot_at (take c.filled area)) c.trail w (fed step f (t_line k)) r g' w' f₂) → Conflict S (length area) (state_of c area) k a.lines (outcome_of c.trail w' r)
+      conflict : (r : Option ℕ) (a : Analysed step S (slot_at (take c.filled area)) c.trail w (fed step f (t_line k)) r g' w' f₂) → Conflict S (length area) (state_of c area) k a.lines (outcome_of c.trail w' r)
       conflict r a = record { first = breaks.0; block = w; there = sym is; broken = subst (λ (g : Ranges). Broken S.last g w) going.kept.left ready.broken; analysed = a.analysis }
 
-      pub stops_over : Analysed step S (slot_at (take c.filled area)) c.trail w (fed step f (t_line k)) Over g' w' f₂ → (c₃ : Course) → Stops step S c area f Nothing c₃ area f₂
-      stops_over a c₃ = record { lines = t_line k ∷ a.lines; ends = run_out (conflict Over a); told = a.told; same = refl }
+      pub stops_over : Analysed step S (slot_at (take c.filled area)) c.trail w (fed step f (t_line k)) None g' w' f₂ → (c₃ : Course) → Stops step S c area f Nothing c₃ area f₂
+      stops_over a c₃ = record { lines = t_line k ∷ a.lines; ends = run_out (conflict None a); told = a.told; same = refl }
 
-      module _ (n : ℕ) (a : Analysed step S (slot_at (take c.filled area)) c.trail w (fed step f (t_line k)) (Before n) g' w' f₂) where
-        came : Came S (blocks_of S (length area) (state_of c area)) (learnt w' (trail_below c.trail.entries n))
-        came = conflict_sound S (length area) (state_of c area) good k a.lines (learnt w' (trail_below c.trail.entries n)) (conflict (Before n) a)
+      module _ (n : ℕ) (a : Analysed step S (slot_at (take c.filled area)) c.trail w (fed step f (t_line k)) (Some n) g' w' f₂) where
+        came : Came S (blocks_of S (length area) (state_of c area)) (learnt w' (trail_below c.trail.entries.items n))
+        came = conflict_sound S (length area) (state_of c area) good k a.lines (learnt w' (trail_below c.trail.entries.items n)) (conflict (Some n) a)
 
-        there : Stands S.last (region S.last (trail_below c.trail.entries n))
-        there = region_stands S.last (blocks_of S (length area) (state_of c area)) (trail_below c.trail.entries n) came.2
+        there : Stands S.last (region S.last (trail_below c.trail.entries.items n))
+        there = region_stands S.last (blocks_of S (length area) (state_of c area)) (trail_below c.trail.entries.items n) came.2
 
-        filled_reason : (j : ℕ) → IsReason (trail_below c.trail.entries n) (100 + j) → j < c.filled
+        filled_reason : (j : ℕ) → IsReason (trail_below c.trail.entries.items n) (100 + j) → j < c.filled
         filled_reason j r =
-            let b = reason_known S.last (blocks_of S (length area) (state_of c area)) (trail_below c.trail.entries n) (100 + j) came.2 r in
+            let b = reason_known S.last (blocks_of S (length area) (state_of c area)) (trail_below c.trail.entries.items n) (100 + j) came.2 r in
             elim (cases_lt j c.filled) [
               | inl l ↦ l
-              | inr l ↦ absurd (none_some (sym (slot_take_past area c.filled j l) ∙ sym (block_at_slot S.rules (slot_at (take c.filled area)) j) ∙ b.1))
+              | inr l ↦ absurd (none-some _ (sym (slot_take_past area c.filled j l) ∙ sym (block_at_slot S.rules (slot_at (take c.filled area)) j) ∙ b.1))
             ]
 
         -- the course, cut
-        module _ (c₂ : Course) (entries : c₂.trail.entries ≡ c.trail.entries) (len : c₂.trail.len ≡ n) (reg : ranges c₂.region ≡ g') (fil : c₂.filled ≡ c.filled) (nex : c₂.next ≡ c.next) where
-          cut : trail_of c₂.trail ≡ trail_below c.trail.entries n
-          cut = λ i. trail_below (entries i) (len i)
+        module _ (c₂ : Course) (entries : c₂.trail.entries.items ≡ take n c.trail.entries.items) (reg : ranges c₂.region ≡ g') (fil : c₂.filled ≡ c.filled) (nex : c₂.next ≡ c.next) where
+          inside : n ≤ length c.trail.entries.items
+          inside = let q = a.left.0 in omega arith
+
+          len : length (take n c.trail.entries.items) ≡ n
+          len = length-take-le n c.trail.entries.items inside
+
+          cut : trail_of c₂.trail ≡ trail_below c.trail.entries.items n
+          cut = (λ i. trail_below (entries i) (length (entries i))) ∙ ap (trail_below (take n c.trail.entries.items)) len ∙ below_take c.trail.entries.items n n (omega arith) inside
 
           left : ranges c₂.region ≡ region S.last (trail_of c₂.trail)
           left = reg ∙ a.left.1 ∙ sym (ap (region S.last) cut)
@@ -99,21 +105,21 @@ module _ {M : Type 0} (step : M → Line → SinkStep M) (S : Sheet) (pr : Prope
               let here = reg ∙ a.left.1 in
               record {
                 kept = record {
-                  ends = subst₂ (KeepsEnds S.last) (sym entries) (sym len) (λ i l. kp.ends i (let q = a.left.0 in omega arith));
+                  ends = subst (KeepsEnds S.last) (sym entries) (keeps_take S.last c.trail.entries.items n inside kp.ends);
                   left = left;
                   room = kp.room;
                   filled = subst (λ (x : ℕ). x ≤ length area) (sym fil) kp.filled;
                   next = let q = kp.next in omega arith;
                   full = λ j l. kp.full j (omega arith);
                 };
-                forces = (came.3.0, subst (λ (g : Ranges). Forces S.last g w' came.3.0) (sym here) (covers_forces S.last (region S.last (trail_below c.trail.entries n)) there w' came.3.0 came.3.1 came.3.2));
+                forces = (came.3.0, subst (λ (g : Ranges). Forces S.last g w' came.3.0) (sym here) (covers_forces S.last (region S.last (trail_below c.trail.entries.items n)) there w' came.3.0 came.3.1 came.3.2));
                 stands = (came.0, subst (Stands S.last) (sym here) there);
-                short = let q = a.left.0 in let fw = c.trail.few in omega arith;
+                short = let q = a.left.0 in omega (arith, trail_192 S pr (length area) going.steps, length_below c.trail.entries.items (length c.trail.entries.items), ap length entries, len);
                 reasons = λ j r. let h = filled_reason j (subst (λ (t : List Entry). IsReason t (100 + j)) cut r) in omega arith;
               }
 
           -- what keeping the work block makes of it
-          moved : (c₃ : Course) (area₃ : List Slot) (f₃ : Feed M) (kin : KeepsIn step S w' c₂ area f₂ c₃ area₃ f₃) → ◌≡◌ {A = State} (record { trail = forced kin.bound (100 + kin.slot) ∷ trail_below c.trail.entries n; slots = update eqb (slot_at (take c.filled area)) kin.slot (Some w'); next = suc kin.slot }) (state_of c₃ area₃)
+          moved : (c₃ : Course) (area₃ : List Slot) (f₃ : Feed M) (kin : KeepsIn step S w' c₂ area f₂ c₃ area₃ f₃) → ◌≡◌ {A = State} (record { trail = forced kin.bound (100 + kin.slot) ∷ trail_below c.trail.entries.items n; slots = update eqb (slot_at (take c.filled area)) kin.slot (Some w'); next = suc kin.slot }) (state_of c₃ area₃)
           moved c₃ area₃ f₃ kin =
               let e = kin.trail ∙ ap (λ (t : List Entry). forced kin.bound (100 + kin.slot) ∷ t) cut in
               let d = kin.slots ∙ ap (λ (x : ℕ). update eqb (slot_at (take x area)) kin.slot (Some w')) fil in
@@ -127,7 +133,7 @@ module _ {M : Type 0} (step : M → Line → SinkStep M) (S : Sheet) (pr : Prope
             kept = kin.kept;
             lines = t_line k ∷ (a.lines ++ k_line (100 + kin.slot) ∷ []);
             moves = subst (Step S (length area) (state_of c area) (t_line k ∷ (a.lines ++ k_line (100 + kin.slot) ∷ []))) (moved c₃ area₃ f₃ kin)
-                (learn (conflict (Before n) a) (subst₂ (λ (x : ℕ) (t : List Entry). FreeSlot (length area) x t kin.slot) nex cut kin.free) (subst (λ (g : Ranges). Forces S.last g w' kin.bound) (reg ∙ a.left.1) kin.forces));
+                (learn (conflict (Some n) a) (subst₂ (λ (x : ℕ) (t : List Entry). FreeSlot (length area) x t kin.slot) nex cut kin.free) (subst (λ (g : Ranges). Forces S.last g w' kin.bound) (reg ∙ a.left.1) kin.forces));
             told = lines_told kin.slot f₃ kin.told;
             whole = kin.whole;
             more = let q = kin.more in omega arith;
@@ -137,7 +143,7 @@ module _ {M : Type 0} (step : M → Line → SinkStep M) (S : Sheet) (pr : Prope
           stops_full : (e : Ended) (c₃ : Course) (area₃ : List Slot) (f₃ : Feed M) → KeepsNone c₂ area f₂ e area₃ f₃ → Stops step S c area f e c₃ area₃ f₃
           stops_full e c₃ area₃ f₃ none = subst (λ (x : Ended). Stops step S c area f x c₃ area₃ f₃) (sym none.is) (record {
             lines = t_line k ∷ a.lines;
-            ends = full (conflict (Before n) a) (λ j l. subst (λ (t : List Entry). IsReason t (100 + j)) cut (none.reasons j l));
+            ends = full (conflict (Some n) a) (λ j l. subst (λ (t : List Entry). IsReason t (100 + j)) cut (none.reasons j l));
             told = none.told ∙ a.told;
             same = none.same;
           })

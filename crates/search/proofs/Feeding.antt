@@ -2,6 +2,7 @@
 use Rattle.std.proofs.Common.{◌≡◌, ℕ, suc, ◌+◌, List, [], ◌∷◌, ◌++◌, length, Some, None, Option, sym, refl, ap, ◌∙◌, subst, append_assoc, append-nil, arith, length-append}
 use Rattle.blocks.specs.declared.line.Line.{Line}
 use Rattle.blocks.specs.Sinks.{Step, taken, refused}
+use Rattle.search.specs.declared.verdict.FirstRefusal.{FirstRefusal}
 use Rattle.search.specs.Sends.{counted, takes_none, takes_more, Sends, all_taken, refused_at}
 use Rattle.search.specs.Tallies.{first_refusal, sink_after, Feed, feed, fed, fed_all}
 
@@ -23,12 +24,12 @@ module _ {M : Type 0} (step : M → Line → Step M) where
   one_longer ls l = omega (arith, length-append ls (l ∷ []))
 
   -- the next line, by what was refused before and by the sink's answer
-  next : (s : M) (lines : List Line) (l : Line) (count : ℕ) (r : Option (ℕ × ℕ)) (t : M) (sent : List Line) → count ≡ counted (length lines) → Sends step s lines sent r t
+  next : (s : M) (lines : List Line) (l : Line) (count : ℕ) (r : Option FirstRefusal) (t : M) (sent : List Line) → count ≡ counted (length lines) → Sends step s lines sent r t
       → (x : Step M) → step t l ≡ x → (ss : List Line) × Sends step s (lines ++ l ∷ []) ss (first_refusal r (counted (count + 1)) x) (sink_after r t x)
   next s lines l count r t sent c (all_taken k) (taken u) e = (lines ++ l ∷ [], all_taken (takes_more k e))
   next s lines l count r t sent c (all_taken k) (refused n) e =
       let q : counted (count + 1) ≡ counted (suc (length lines)) = omega arith in
-      (lines ++ l ∷ [], subst (λ (m : ℕ). Sends step s (lines ++ l ∷ []) (lines ++ l ∷ []) (Some (n, m)) t) (sym q) (refused_at [] refl k e))
+      (lines ++ l ∷ [], subst (λ (m : ℕ). Sends step s (lines ++ l ∷ []) (lines ++ l ∷ []) (Some (record { number = n; line = m })) t) (sym q) (refused_at [] refl k e))
   next s lines l count r t sent c (refused_at {ts = ts} {l = j} us is k e) x d =
       (ts ++ j ∷ [], refused_at (us ++ l ∷ []) (ap (λ (ys : List Line). ys ++ l ∷ []) is ∙ append_assoc ts (j ∷ us) (l ∷ [])) k e)
 

@@ -1,6 +1,5 @@
 -- A work block is kept in a slot.
-use Rattle.std.proofs.Common.{◌≡◌, ℕ, zero, suc, ◌+◌, ◌<◌, ◌≤◌, max, eqb, ◌≢◌, List, [], ◌∷◌, length, take, set, Some, None, sym, refl, ap, ◌∙◌, subst, inl, inr, arith, length-set}
-use Rattle.std.specs.List.{slice_get}
+use Rattle.std.proofs.Common.{◌≡◌, ℕ, ◌+◌, ◌<◌, ◌≤◌, max, eqb, ◌≢◌, List, length, take, set, Some, sym, ap, ◌∙◌, subst, inl, inr, arith, length-set}
 use Rattle.std.specs.Map.{update}
 use Rattle.std.proofs.lemmas.Map.{update_here, update_apart}
 use Rattle.std.proofs.lemmas.Bool.{cases_eq, cases_lt}
@@ -8,54 +7,20 @@ use Rattle.std.proofs.lemmas.Bool.Decides.{nat_tests}
 use Rattle.blocks.specs.declared.block.Block.{Block}
 use Rattle.blocks.specs.declared.bound.Bound.{Bound}
 use Rattle.blocks.specs.declared.line.Line.{Line}
-use Rattle.blocks.specs.declared.slot.Slot.{Slot}
-use Rattle.blocks.specs.declared.slot.Slot.TheVariants.{Filled}
 use Rattle.blocks.specs.Lines.{k_line}
 use Rattle.blocks.specs.Sheets.{Sheet}
 use Rattle.blocks.specs.Sinks.{Step}
-use Rattle.blocks.specs.Slots.{slot_holds, slot_at}
+use Rattle.blocks.specs.Slots.{Slot, slot_at}
 use Rattle.blocks.specs.Status.{Forces}
 use Rattle.blocks.specs.Views.{ranges}
 use Rattle.search.specs.declared.course.Course.{Course}
-use Rattle.search.specs.declared.trail.Reason.TheVariants.{Forced}
 use Rattle.search.specs.Search.{Entry, IsReason, turn, FreeSlot}
 use Rattle.search.specs.Tallies.{Feed, fed}
 use Rattle.search.specs.Trails.{trail_of}
 use Rattle.search.specs.Courses.{Joined}
 use Rattle.search.specs.Moves.{Learnt, KeepsIn}
+use Rattle.search.proofs.Slots.{get_apart, slot_take, slot_take_past, slot_here, slot_apart}
 use Rattle.search.proofs.Joining.{joined_trail, joined_left, joined_ends}
-
--- slots of a part, and after a write
-pub slot_take : (xs : List Slot) (n j : ℕ) → j < n → slot_at (take n xs) j ≡ slot_at xs j
-slot_take xs zero j l = absurd (omega arith)
-slot_take [] (suc n) j l = refl
-slot_take (x ∷ xs) (suc n) zero l = refl
-slot_take (x ∷ xs) (suc n) (suc j) l = slot_take xs n j (omega arith)
-
-pub slot_take_past : (xs : List Slot) (n j : ℕ) → n ≤ j → slot_at (take n xs) j ≡ None
-slot_take_past xs zero j l = refl
-slot_take_past [] (suc n) j l = refl
-slot_take_past (x ∷ xs) (suc n) zero l = absurd (omega arith)
-slot_take_past (x ∷ xs) (suc n) (suc j) l = slot_take_past xs n j (omega arith)
-
-set_here : (xs : List Slot) (i : ℕ) (s : Slot) → i < length xs → slot_at (set xs i s) i ≡ slot_holds s
-set_here [] i s l = absurd (omega arith)
-set_here (x ∷ xs) zero s l = refl
-set_here (x ∷ xs) (suc i) s l = set_here xs i s (omega arith)
-
-set_apart : (xs : List Slot) (i : ℕ) (s : Slot) (j : ℕ) → j ≢ i → slot_at (set xs i s) j ≡ slot_at xs j
-set_apart [] i s j n = refl
-set_apart (x ∷ xs) zero s zero n = absurd (n refl)
-set_apart (x ∷ xs) zero s (suc j) n = refl
-set_apart (x ∷ xs) (suc i) s zero n = refl
-set_apart (x ∷ xs) (suc i) s (suc j) n = set_apart xs i s j (λ e. n (ap suc e))
-
-nth_apart : (xs : List Slot) (i : ℕ) (s : Slot) (j : ℕ) → j ≢ i → slice_get (set xs i s) j ≡ slice_get xs j
-nth_apart [] i s j n = refl
-nth_apart (x ∷ xs) zero s zero n = absurd (n refl)
-nth_apart (x ∷ xs) zero s (suc j) n = refl
-nth_apart (x ∷ xs) (suc i) s zero n = refl
-nth_apart (x ∷ xs) (suc i) s (suc j) n = nth_apart xs i s j (λ e. n (ap suc e))
 
 -- the first free slot is a filled one or the one right behind
 slot_low : (m next filled : ℕ) (t : List Entry) (j : ℕ) → next ≤ filled → filled ≤ m → ((i : ℕ) → IsReason t (100 + i) → i < filled) → FreeSlot m next t j → j ≤ filled
@@ -75,23 +40,23 @@ module _ {M : Type 0} (step : M → Line → Step M) (S : Sheet) (w : Block) (c 
   filled' = max c.filled (slot + 1)
 
   abbrev area' : List Slot
-  area' = set area slot (Filled w)
+  area' = set area slot (Some w)
 
   after : (j : ℕ) → slot_at (take filled' area') j ≡ update eqb (slot_at (take c.filled area)) slot (Some (ranges w)) j
   after j = elim (cases_eq j slot) [
     | inl e ↦ subst (λ (i : ℕ). slot_at (take filled' area') i ≡ update eqb (slot_at (take c.filled area)) slot (Some (ranges w)) i) (sym e)
-        (slot_take area' filled' slot (omega arith) ∙ set_here area slot (Filled w) free.inside ∙ sym (update_here (slot_at (take c.filled area)) slot (Some (ranges w))))
+        (slot_take area' filled' slot (omega arith) ∙ slot_here area slot (Some w) free.inside ∙ sym (update_here (slot_at (take c.filled area)) slot (Some (ranges w))))
     | inr n ↦ other n
   ]
     where
       other : j ≢ slot → slot_at (take filled' area') j ≡ update eqb (slot_at (take c.filled area)) slot (Some (ranges w)) j
       other n = elim (cases_lt j c.filled) [
-        | inl l ↦ slot_take area' filled' j (omega arith) ∙ set_apart area slot (Filled w) j n ∙ sym (slot_take area c.filled j l) ∙ sym (update_apart (slot_at (take c.filled area)) slot (Some (ranges w)) j n)
+        | inl l ↦ slot_take area' filled' j (omega arith) ∙ slot_apart area slot (Some w) j n ∙ sym (slot_take area c.filled j l) ∙ sym (update_apart (slot_at (take c.filled area)) slot (Some (ranges w)) j n)
         | inr l ↦ let k = low in slot_take_past area' filled' j (omega arith) ∙ sym (slot_take_past area c.filled j l) ∙ sym (update_apart (slot_at (take c.filled area)) slot (Some (ranges w)) j n)
       ]
 
-  module _ (β : Bound) (f : Forces S.last (ranges c.region) (ranges w) β) (c' : Course) (sized : length c.trail.entries ≡ 192)
-      (join : Joined (record { trail = c.trail; region = c.region; filled = max c.filled (slot + 1); next = slot + 1 }) β (Forced (100 + slot)) c')
+  module _ (β : Bound) (f : Forces S.last (ranges c.region) (ranges w) β) (c' : Course)
+      (join : Joined (record { trail = c.trail; region = c.region; filled = max c.filled (slot + 1); next = slot + 1 }) β (Some (100 + slot)) c')
       (f₀ f₁ : Feed M) (tell : f₁ ≡ fed step f₀ (k_line (100 + slot))) where
     abbrev c₁ : Course
     c₁ = record { trail = c.trail; region = c.region; filled = max c.filled (slot + 1); next = slot + 1 }
@@ -99,35 +64,35 @@ module _ {M : Type 0} (step : M → Line → Step M) (S : Sheet) (w : Block) (c 
     filled_is : c'.filled ≡ max c.filled (slot + 1)
     filled_is = join.filled
 
-    pub keeps_in : KeepsIn step S (ranges w) c area f₀ c' (set area slot (Filled w)) f₁
+    pub keeps_in : KeepsIn step S (ranges w) c area f₀ c' (set area slot (Some w)) f₁
     keeps_in =
         let k = learnt.kept in
         let lo = low in
         let ins = free.inside in
         let fi = filled_is in
         let ni = join.next in
-        let len = length-set area slot (Filled w) in
+        let len = length-set area slot (Some w) in
         record {
           slot = slot;
           free = free;
           bound = β;
           forces = f;
           kept = record {
-            ends = joined_ends S.last c₁ c' β (Forced (100 + slot)) sized learnt.short join k.left k.ends;
-            left = joined_left S.last c₁ c' β (Forced (100 + slot)) sized learnt.short join k.left;
+            ends = joined_ends S.last c₁ c' β (Some (100 + slot)) join k.left k.ends;
+            left = joined_left S.last c₁ c' β (Some (100 + slot)) join k.left;
             room = let r = k.room in omega arith;
             filled = let q = k.filled in omega arith;
             next = omega arith;
             full = λ j l. elim (cases_eq j slot) [
-              | inl e ↦ (ranges w, subst (λ (i : ℕ). slot_at (set area slot (Filled w)) i ≡ Some (ranges w)) (sym e) (set_here area slot (Filled w) ins))
-              | inr n ↦ let o = k.full j (omega arith) in (o.0, set_apart area slot (Filled w) j n ∙ o.1)
+              | inl e ↦ (ranges w, subst (λ (i : ℕ). slot_at (set area slot (Some w)) i ≡ Some (ranges w)) (sym e) (slot_here area slot (Some w) ins))
+              | inr n ↦ let o = k.full j (omega arith) in (o.0, slot_apart area slot (Some w) j n ∙ o.1)
             ];
           };
-          trail = joined_trail S.last c₁ c' β (Forced (100 + slot)) sized learnt.short join k.left;
-          slots = ap (λ (n : ℕ). slot_at (take n (set area slot (Filled w)))) fi ∙ (λ i j. after j i);
+          trail = joined_trail S.last c₁ c' β (Some (100 + slot)) join k.left;
+          slots = ap (λ (n : ℕ). slot_at (take n (set area slot (Some w)))) fi ∙ (λ i j. after j i);
           next = ni ∙ omega arith;
           told = tell;
           whole = len;
           more = omega arith;
-          untouched = λ j l. nth_apart area slot (Filled w) j (λ e. omega arith);
+          untouched = λ j l. get_apart area slot (Some w) j (λ e. omega arith);
         }

@@ -8,7 +8,8 @@ use Rattle.blocks.specs.Ranges.{Ranges, narrow}
 use Rattle.blocks.specs.Sheets.{Sheet, Proper}
 use Rattle.blocks.proofs.Ranging.{narrow_low, narrow_high}
 use Rattle.search.specs.Search.{Entry, bound_of, region, State, cold, Verdict, found, none, no_slot, blocks_of, Ends, all_dead, run_out, full, Run}
-use Rattle.search.specs.Laws.{Mem, OfARule, AllBreak, OneRun, AlwaysASlot, VerdictIsRight, TrailOfTheRules, FoundEnds}
+use Rattle.blocks.specs.Meeting.{Impossible}
+use Rattle.search.specs.Laws.{Mem, OfARule, OneRun, AlwaysASlot, VerdictIsRight, TrailOfTheRules, FoundEnds}
 use Rattle.search.proofs.Sound.{found_same, run_none, run_found, steps_good, good_start}
 use Rattle.search.proofs.Same.{run_same}
 use Rattle.search.proofs.Ends.{trail_distinct, within_mem, drawn}
@@ -64,7 +65,7 @@ module _ (S : Sheet) (pr : Proper S) (m : ℕ) where
     none_exactly = λ room ls v end r. (λ e. run_none S m pr ls end (subst (λ (x : Verdict). Run S m cold ls x end) e r), λ all. exactly room ls end v r all);
   }
     where
-      exactly : 193 ≤ m → (ls : List Line) (end : State) (v : Verdict) → Run S m cold ls v end → AllBreak S → v ≡ none
+      exactly : 193 ≤ m → (ls : List Line) (end : State) (v : Verdict) → Run S m cold ls v end → Impossible S → v ≡ none
       exactly room ls end none r all = refl
       exactly room ls end no_slot r all = absurd (free_193 S pr m room ls end r)
       exactly room ls end (found b) r all =

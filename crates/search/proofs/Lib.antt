@@ -6,6 +6,7 @@ pub mod Total
 pub mod Feeding
 pub mod Scanning
 pub mod Trailing
+pub mod Slots
 pub mod Looking
 pub mod Analysing
 pub mod Joining

@@ -2,6 +2,7 @@
 use Rattle.std.proofs.Common.{◌≡◌, ℕ, zero, suc, ◌+◌, ◌-◌, ◌*◌, ◌<◌, ◌≤◌, cond, ltb, ◌⊎◌, List, [], ◌∷◌, ◌++◌, length, Some, sym, refl, ap, subst, inl, inr, arith, length-append}
 use Rattle.std.specs.List.{slice_get}
 use Rattle.std.proofs.lemmas.Bool.{cases_eq, cases_lt, lt-ltb, le-ltb}
+use Rattle.std.proofs.lemmas.Option.{none-some}
 use Rattle.blocks.specs.declared.bound.Bound.{Bound}
 use Rattle.blocks.specs.declared.bound.Bound.TheVariants.{AtMost, AtLeast}
 use Rattle.blocks.specs.declared.line.Line.{Line}
@@ -14,7 +15,7 @@ use Rattle.blocks.proofs.Numbers.{some_same}
 use Rattle.search.specs.Search.{State, cold, Verdict, no_slot, Step, Steps, Run}
 use Rattle.search.specs.Laws.{Mem}
 use Rattle.search.proofs.Ends.{Lists, left, trail_short, step_falls, never_full}
-use Rattle.search.proofs.Total.{none_some, rank_below, run_exists}
+use Rattle.search.proofs.Total.{rank_below, run_exists}
 
 module _ {A : Type 0} (x : A) where
   mem_left : (xs ys : List A) → Mem x xs → Mem x (xs ++ ys)
@@ -45,7 +46,7 @@ bounds_of_all last [] = []
 bounds_of_all last (b ∷ bs) = bounds_below last b 12 ++ bounds_of_all last bs
 
 each : (last : ℕ → ℕ) (bs : List Ranges) (i : ℕ) (b : Ranges) → slice_get bs i ≡ Some b → (β : Bound) → Mem β (bounds_below last b 12) → Mem β (bounds_of_all last bs)
-each last [] i b e β m = absurd (none_some e)
+each last [] i b e β m = absurd (none-some _ e)
 each last (a ∷ bs) zero b e β m = mem_left β (bounds_below last a 12) (bounds_of_all last bs) (subst (λ (x : Ranges). Mem β (bounds_below last x 12)) (some_same e refl) m)
 each last (a ∷ bs) (suc i) b e β m = mem_right β (bounds_below last a 12) (bounds_of_all last bs) (each last bs i b e β m)
 

@@ -1,21 +1,19 @@
 -- Blocks by their numbers: those of the rules below 100, those of the slots from there on.
-use Rattle.std.proofs.Common.{◌≡◌, ℕ, zero, suc, ◌+◌, ◌-◌, ◌<◌, ◌≤◌, List, [], ◌∷◌, map, length, get_or, take, IfSome, Some, None, Option, sym, refl, ap, ◌∙◌, subst, subst₂, inl, inr, arith}
+use Rattle.std.proofs.Common.{◌≡◌, ℕ, zero, suc, ◌+◌, ◌-◌, ◌<◌, ◌≤◌, List, [], ◌∷◌, map, length, take, IfSome, Some, None, Option, sym, refl, ap, ◌∙◌, subst, ap₂, subst₂, inl, inr, arith}
 use lib.ListN.{length-map}
 use Rattle.std.specs.List.{slice_get}
-use Rattle.std.proofs.lemmas.Option.{slice_get-get_or, slice_get_past}
-use Rattle.std.proofs.lemmas.List.{get_or-map, length-take-le}
+use Rattle.std.proofs.lemmas.Option.{slice_get_past, none-some}
+use Rattle.std.proofs.lemmas.List.{length-take-le}
 use Rattle.std.proofs.lemmas.Bool.{cases_lt, lt-ltb, le-ltb}
 use Rattle.std.specs.Option.{option_or}
-use Rattle.blocks.specs.declared.slot.Slot.{Slot}
 use Rattle.blocks.specs.declared.standing.Standing.{Standing}
 use Rattle.blocks.specs.Ranges.{Ranges}
-use Rattle.blocks.specs.Slots.{joined, slot_holds, slot_at}
+use Rattle.blocks.specs.Slots.{Slot, slot_at}
 use Rattle.blocks.specs.Views.{block_of, blocks}
 use Rattle.search.specs.declared.scan.Scan.{Scan}
 use Rattle.search.specs.declared.scan.Scan.TheVariants.{Broken, Forcing, Quiet}
 use Rattle.search.specs.Scans.{holding, Calm, FirstAlive, Scanned}
 use Rattle.search.specs.Numbers.{numbered, slot_numbers}
-use Rattle.search.proofs.Total.{none_some}
 
 abbrev pub stands : Standing → Option Ranges
 stands s = Some (block_of s)
@@ -30,28 +28,14 @@ module _ (rules : List Standing) (filled : List Slot) where
   pub slot_number : (j : ℕ) → numbered rules filled (100 + j) ≡ slot_at filled j
   slot_number j = in_slots (100 + j) (omega arith) ∙ ap (slot_at filled) (omega arith)
 
--- the rules read are the problem's, and the part read is what is filled
-pub read_here : (rules rules' : List Standing) (area : List Slot) (n : ℕ) → rules ≡ rules' → numbered rules (take (n - 0) area) ≡ numbered rules' (take n area)
-read_here rules rules' area n e = let z : n - 0 ≡ n = omega arith in λ i. numbered (e i) (take (z i) area)
-
--- a scan of them goes up to the last that is filled
-pub scanned_here : (rules rules' : List Standing) (area : List Slot) (n : ℕ) → rules ≡ rules' → n ≤ length area → (g : Ranges) (s : Scan) → Scanned g (numbered rules (take (n - 0) area)) (100 + length (take (n - 0) area)) s → Scanned g (numbered rules' (take n area)) (100 + n) s
-scanned_here rules rules' area n e l g s h =
-    let z : n - 0 ≡ n = omega arith in
-    let len : 100 + length (take (n - 0) area) ≡ 100 + n = ap (λ (k : ℕ). 100 + length (take k area)) z ∙ ap (λ (k : ℕ). 100 + k) (length-take-le n area l) in
-    subst₂ (λ (f : ℕ → Option Ranges) (k : ℕ). Scanned g f k s) (read_here rules rules' area n e) len h
-
-pub rule_item : (rules : List Standing) (k : ℕ) (d : Standing) → k < length rules → slice_get (blocks rules) k ≡ Some (block_of (get_or rules k d))
-rule_item rules k d l = slice_get-get_or (map block_of rules) k (block_of d) (rw length-map l) ∙ ap Some (get_or-map block_of rules k d (block_of d) l)
+-- a scan of the rules and the filled slots goes up to the last that is filled
+pub scanned_here : (rules rules' : List Standing) (xs area : List Slot) (n : ℕ) → rules ≡ rules' → xs ≡ take n area → n ≤ length area → (g : Ranges) (s : Scan) → Scanned g (numbered rules xs) (100 + length xs) s → Scanned g (numbered rules' (take n area)) (100 + n) s
+scanned_here rules rules' xs area n e f l g s h =
+    let len : 100 + length xs ≡ 100 + n = ap (λ (k : ℕ). 100 + k) (ap length f ∙ length-take-le n area l) in
+    subst₂ (λ (b : ℕ → Option Ranges) (k : ℕ). Scanned g b k s) (ap₂ numbered e f) len h
 
 pub rule_past : (rules : List Standing) (k : ℕ) → length rules ≤ k → slice_get (blocks rules) k ≡ None
 rule_past rules k l = slice_get_past (map block_of rules) k (rw length-map l)
-
-pub slot_item : (filled : List Slot) (j : ℕ) (d : Slot) → j < length filled → slot_at filled j ≡ slot_holds (get_or filled j d)
-slot_item filled j d l = ap joined (slice_get-get_or (map slot_holds filled) j (slot_holds d) (rw length-map l) ∙ ap Some (get_or-map slot_holds filled j d (slot_holds d) l))
-
-pub slot_past : (filled : List Slot) (j : ℕ) → length filled ≤ j → slot_at filled j ≡ None
-slot_past filled j l = ap joined (slice_get_past (map slot_holds filled) j (rw length-map l))
 
 standing_held : (rules : List Standing) (k : ℕ) → holding stands rules k ≡ slice_get (blocks rules) k
 standing_held [] k = refl
@@ -76,7 +60,7 @@ module _ (g : Ranges) (rules : List Standing) (filled : List Slot) (few : length
   below_hundred : (P : Ranges → Type 0) → ((k : ℕ) → k < length rules → (b : Ranges) → holding stands rules k ≡ Some b → P b) → (k : ℕ) → k < 100 → (b : Ranges) → all k ≡ Some b → P b
   below_hundred P h k l b e = elim (cases_lt k (length rules)) [
     | inl m ↦ h k m b (sym (rule_is k l) ∙ e)
-    | inr m ↦ absurd (none_some (sym (no_rule k m l) ∙ e))
+    | inr m ↦ absurd (none-some _ (sym (no_rule k m l) ∙ e))
   ]
 
   -- what holds of each block below 100, and of the first j slots, holds of each below 100 + j

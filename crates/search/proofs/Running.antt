@@ -3,14 +3,14 @@ use Rattle.std.proofs.Common.{◌≡◌, ℕ, ◌<◌, ◌≤◌, List, [], ◌+
 use Rattle.std.specs.List.{slice_get}
 use Rattle.std.proofs.lemmas.Bool.{cases_lt}
 use Rattle.blocks.specs.declared.line.Line.{Line}
-use Rattle.blocks.specs.declared.slot.Slot.{Slot}
 use Rattle.blocks.specs.Ranges.{Ranges, everything}
 use Rattle.blocks.specs.Sheets.{Sheet, Proper}
 use Rattle.blocks.specs.Sinks.{Step as SinkStep}
-use Rattle.blocks.specs.Slots.{slot_at}
+use Rattle.blocks.specs.Slots.{Slot, slot_at}
 use Rattle.blocks.specs.Views.{ranges}
 use Rattle.search.specs.declared.course.Course.{Course}
 use Rattle.search.specs.declared.moves.Ended.{Ended}
+use Rattle.search.specs.declared.trail.TrailEntry.{TrailEntry}
 use Rattle.search.specs.Search.{cold, region, Steps, here, on, Run}
 use Rattle.search.specs.Tallies.{Feed, fed_all}
 use Rattle.search.specs.Trails.{trail_below}
@@ -19,7 +19,7 @@ use Rattle.search.specs.Moves.{Going, Goes, Stops, verdict_at}
 use Rattle.search.specs.Solve.{Ran}
 use Rattle.search.proofs.Ends.{left}
 use Rattle.search.proofs.Feeding.{fed_more}
-use Rattle.search.proofs.Keeping.{slot_take, slot_take_past}
+use Rattle.search.proofs.Slots.{slot_take, slot_take_past}
 use Rattle.search.proofs.Listing.{falls_192}
 
 module _ {M : Type 0} (step : M → Line → SinkStep M) (S : Sheet) (pr : Proper S) (area₀ : List Slot) (f₀ : Feed M) where
@@ -30,19 +30,19 @@ module _ {M : Type 0} (step : M → Line → SinkStep M) (S : Sheet) (pr : Prope
     pub whole : length area ≡ length area₀
     pub untouched : (j : ℕ) → c.filled ≤ j → slice_get area j ≡ slice_get area₀ j
 
-  pub starts : (c : Course) → c.trail.len ≡ 0 → ranges c.region ≡ everything S.last → c.filled ≡ 0 → c.next ≡ 0 → length area₀ ≤ 4096 → UnderWay c area₀ f₀
-  starts c len reg fil nex room = record {
+  pub starts : (c : Course) → c.trail.entries.items ≡ [] → ranges c.region ≡ everything S.last → c.filled ≡ 0 → c.next ≡ 0 → length area₀ ≤ 4096 → UnderWay c area₀ f₀
+  starts c none reg fil nex room = record {
     going = record {
       kept = record {
-        ends = λ k l. absurd (omega arith);
-        left = reg ∙ sym (ap (λ (n : ℕ). region S.last (trail_below c.trail.entries n)) len);
+        ends = λ k l. absurd (omega (arith, ap length none));
+        left = reg ∙ sym (ap (λ (xs : List TrailEntry). region S.last (trail_below xs (length xs))) none);
         room = room;
         filled = omega arith;
         next = omega arith;
         full = λ j l. absurd (omega arith);
       };
       lines = [];
-      steps = subst (Steps S (length area₀) cold []) (sym (λ i. record { trail = trail_below c.trail.entries (len i); slots = slots i; next = nex i })) here;
+      steps = subst (Steps S (length area₀) cold []) (sym (λ i. record { trail = trail_below (none i) (length (none i)); slots = slots i; next = nex i })) here;
     };
     told = refl;
     whole = refl;
@@ -80,11 +80,11 @@ module _ {M : Type 0} (step : M → Line → SinkStep M) (S : Sheet) (pr : Prope
       | inr l ↦ subst (λ (o : Option Ranges). MatchOption o (P j) (Q j)) (sym (slot_take_past area c.filled j l)) (none j l)
     ]
 
-    pub comes_to : (e : Ended) (c' : Course) (area' : List Slot) (f' : Feed M) → Stops step S c area f e c' area' f' → Ran step S area₀ area' f₀ f' (verdict_at (ranges c'.region) e)
+    pub comes_to : (e : Ended) (c' : Course) (area' : List Slot) (f' : Feed M) → Stops step S c area f e c' area' f' → Ran step S area₀ area' f₀ f' (verdict_at e)
     comes_to e c' area' f' s = record {
       lines = u.going.lines ++ s.lines;
       end = state_of c area;
-      run = subst (λ (n : ℕ). Run S n cold (u.going.lines ++ s.lines) (verdict_at (ranges c'.region) e) (state_of c area)) u.whole
+      run = subst (λ (n : ℕ). Run S n cold (u.going.lines ++ s.lines) (verdict_at e) (state_of c area)) u.whole
           (record { before = u.going.lines; after = s.lines; steps = u.going.steps; ends = s.ends; lines = refl });
       told = s.told ∙ ap (λ (x : Feed M). fed_all step x s.lines) u.told ∙ sym (fed_more step f₀ u.going.lines s.lines);
       first = (c.filled, by_slot (λ j. c.filled ≤ j) (λ j b. j < c.filled) (λ j l. l) (λ j b l e. l));

@@ -1,7 +1,7 @@
 -- A scan, place by place.
 use Rattle.std.proofs.Common.{◌≡◌, ℕ, ◌+◌, ◌<◌, List, map, length, get_or, Some, None, Option, sym, refl, ap, ◌∙◌, subst, inl, inr, arith, below_more}
 use lib.ListN.{length-map}
-use Rattle.std.proofs.lemmas.Option.{slice_get-get_or}
+use Rattle.std.proofs.lemmas.Option.{slice_get-get_or, none-some}
 use Rattle.std.proofs.lemmas.List.{get_or-map}
 use Rattle.std.specs.Option.{option_or}
 use Rattle.blocks.specs.declared.status.Status.{Status}
@@ -12,7 +12,6 @@ use Rattle.search.specs.declared.scan.Scan.TheVariants.{Quiet}
 use Rattle.blocks.specs.Slots.{joined}
 use Rattle.blocks.proofs.Numbers.{some_same}
 use Rattle.search.specs.Scans.{holding, Calm, Buried, FirstAlive, Scanned}
-use Rattle.search.proofs.Total.{none_some}
 
 -- what is read at i stands at i
 pub place_at : {P : Type 0} (holds : P → Option Ranges) (ps : List P) (i : ℕ) (p : P) → i < length ps → p ≡ get_or ps i p → holding holds ps i ≡ holds p
@@ -35,7 +34,7 @@ module _ (g : Ranges) (blocks : ℕ → Option Ranges) where
   passed_buried i a d p = record { calm = below_more (Calm g blocks) i p.calm (λ b f. inl (d b f)); alive = alive_more a i p.alive d }
 
   pub passed_empty : (i : ℕ) (a : Option ℕ) → blocks i ≡ None → Passed i a → Passed (i + 1) a
-  passed_empty i a e = passed_buried i a (λ b f. absurd (none_some (sym e ∙ f)))
+  passed_empty i a e = passed_buried i a (λ b f. absurd (none-some _ (sym e ∙ f)))
 
   module _ (i : ℕ) (b : Ranges) (is : blocks i ≡ Some b) where
     pub passed_dead : (a : Option ℕ) → Tells g b dead → Passed i a → Passed (i + 1) a

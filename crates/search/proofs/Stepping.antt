@@ -1,14 +1,14 @@
 -- From a scan to the step, or to the end, that it calls for.
-use Rattle.std.proofs.Common.{◌≡◌, ℕ, zero, suc, ◌+◌, ◌-◌, ◌<◌, ◌≤◌, List, [], ◌∷◌, length, take, Some, None, Option, sym, refl, ap, ◌∙◌, subst, inl, inr, arith}
+use Rattle.std.proofs.Common.{◌≡◌, ℕ, ◌+◌, ◌-◌, ◌<◌, ◌≤◌, List, [], ◌∷◌, length, take, Some, None, Option, sym, refl, ◌∙◌, subst, inl, inr, arith}
 use Rattle.std.proofs.lemmas.Bool.{cases_lt, le-ltb}
+use Rattle.std.proofs.lemmas.Option.{none-some}
 use Rattle.blocks.specs.declared.bound.Bound.{Bound}
 use Rattle.blocks.specs.declared.line.Line.{Line}
-use Rattle.blocks.specs.declared.slot.Slot.{Slot}
 use Rattle.blocks.specs.Ranges.{Ranges, Stands}
 use Rattle.blocks.proofs.Numbers.{some_same}
 use Rattle.blocks.specs.Sheets.{Sheet, Proper}
 use Rattle.blocks.specs.Sinks.{Step as SinkStep}
-use Rattle.blocks.specs.Slots.{slot_at}
+use Rattle.blocks.specs.Slots.{Slot, slot_at}
 use Rattle.blocks.specs.Bounds.{told}
 use Rattle.blocks.specs.declared.status.Status.TheVariants.{Open as unsettled}
 use Rattle.blocks.specs.Status.{Dead, Forces, FirstOpen, Tells}
@@ -16,23 +16,18 @@ use Rattle.blocks.specs.Views.{ranges}
 use Rattle.search.specs.declared.course.Course.{Course}
 use Rattle.search.specs.declared.scan.Scan.TheVariants.{Broken as at_broken, Forcing as at_forcing, Quiet as quiet}
 use Rattle.search.specs.declared.moves.Ended.TheVariants.{Found}
-use Rattle.search.specs.declared.trail.Reason.{Reason}
-use Rattle.search.specs.declared.trail.TrailEntry.{TrailEntry}
 use Rattle.search.specs.Search.{First, Entry, found, State, blocks_of, region_of, Hit, NotDead, Step, on, Ends, all_dead}
 use Rattle.search.specs.Tallies.{Feed}
-use Rattle.search.specs.Trails.{reasoned, trail_below, trail_of}
+use Rattle.search.specs.Trails.{Reason, reasoned, trail_of}
 use Rattle.search.specs.Courses.{state_of, Joined}
 use Rattle.search.specs.Moves.{Going, Goes, Stops, BreaksFirst}
 use Rattle.search.specs.Scans.{Calm, Scanned}
 use Rattle.search.proofs.Sound.{Good, stands, steps_good, good_start}
-use Rattle.search.proofs.Total.{none_some, Status, dead, broken, forcing, opens, status, dead_not_broken, dead_not_forcing}
+use Rattle.search.proofs.Total.{Status, dead, broken, forcing, opens, status, dead_not_broken, dead_not_forcing}
 use Rattle.search.proofs.Joining.{joined_trail, joined_left, joined_ends}
-use Rattle.search.proofs.Keeping.{slot_take_past}
+use Rattle.search.proofs.Trailing.{length_below}
+use Rattle.search.proofs.Slots.{slot_take_past}
 use Rattle.search.proofs.Listing.{trail_192}
-
-length_below : (xs : List TrailEntry) (n : ℕ) → length (trail_below xs n) ≡ n
-length_below xs zero = refl
-length_below xs (suc n) = ap suc (length_below xs n)
 
 module _ (S : Sheet) (pr : Proper S) (c : Course) (area : List Slot) (going : Going S c area) where
   abbrev m : ℕ
@@ -52,11 +47,11 @@ module _ (S : Sheet) (pr : Proper S) (c : Course) (area : List Slot) (going : Go
   block_here k b e = (good.blocks k b e).0
 
   past : (k : ℕ) → 100 + c.filled ≤ k → (b : Ranges) → blocks_of S (length area) (state_of c area) k ≡ Some b → ⊥
-  past k l b e = none_some (sym (slot_take_past area c.filled (k - 100) (omega arith)) ∙ rw (le-ltb k 100 (omega arith)) at e)
+  past k l b e = none-some _ (sym (slot_take_past area c.filled (k - 100) (omega arith)) ∙ rw (le-ltb k 100 (omega arith)) at e)
 
   -- a step that lets an entry join leaves it room
-  pub room_for : (e : Entry) (ls : List Line) (slots : ℕ → Option Ranges) (next : ℕ) → Step S (length area) (state_of c area) ls (record { trail = e ∷ trail_of c.trail; slots = slots; next = next }) → c.trail.len < 192
-  room_for e ls slots next p = omega (arith, trail_192 S pr (length area) (on going.steps p), length_below c.trail.entries c.trail.len)
+  pub room_for : (e : Entry) (ls : List Line) (slots : ℕ → Option Ranges) (next : ℕ) → Step S (length area) (state_of c area) ls (record { trail = e ∷ trail_of c.trail; slots = slots; next = next }) → length c.trail.entries.items < 192
+  room_for e ls slots next p = omega (arith, trail_192 S pr (length area) (on going.steps p), length_below c.trail.entries.items (length c.trail.entries.items))
 
   -- the blocks of the state, and the region that the trail leaves
   abbrev at : ℕ → Option Ranges
@@ -105,7 +100,7 @@ module _ (S : Sheet) (pr : Proper S) (c : Course) (area : List Slot) (going : Go
     pub no_hit : (j : ℕ) → ¬ Hit S (length area) (state_of c area) j
     no_hit j h = elim (cases_lt j (100 + c.filled)) [ inl l ↦ calm_not_hit j (quiet_here.0 j l) h | inr l ↦ past j l h.0 h.1 ]
 
-  pub stops_found : {M : Type 0} (step : M → Line → SinkStep M) (f : Feed M) → Scanned (ranges c.region) at (100 + c.filled) (quiet None) → Stops step S c area f Found c area f
+  pub stops_found : {M : Type 0} (step : M → Line → SinkStep M) (f : Feed M) → Scanned (ranges c.region) at (100 + c.filled) (quiet None) → Stops step S c area f (Found c.region) c area f
   stops_found step f s₀ = record {
     lines = [];
     ends = subst (λ (g : Ranges). Ends S (length area) (state_of c area) [] (found g)) (sym going.kept.left) (all_dead (no_hit None s₀) dead_all);
@@ -150,12 +145,9 @@ module _ (S : Sheet) (pr : Proper S) (c : Course) (area : List Slot) (going : Go
   -- a bound that a step lets join
   module _ {M : Type 0} (step : M → Line → SinkStep M) (f : Feed M) (c' : Course) (β : Bound) (r : Reason) (j : Joined c β r c')
       (p : Step S (length area) (state_of c area) [] (record { trail = reasoned β r ∷ trail_of c.trail; slots = slot_at (take c.filled area); next = c.next })) where
-    short : c.trail.len < 192
-    short = room_for (reasoned β r) [] (slot_at (take c.filled area)) c.next p
-
     moved : ◌≡◌ {A = State} (record { trail = reasoned β r ∷ trail_of c.trail; slots = slot_at (take c.filled area); next = c.next }) (state_of c' area)
     moved =
-        let t = joined_trail S.last c c' β r c.trail.sized short j going.kept.left in
+        let t = joined_trail S.last c c' β r j going.kept.left in
         sym (λ i. record { trail = t i; slots = slot_at (take (j.filled i) area); next = j.next i })
 
     pub goes_on : Goes step S c area f c' area f
@@ -165,8 +157,8 @@ module _ (S : Sheet) (pr : Proper S) (c : Course) (area : List Slot) (going : Go
         let ne = j.next in
         record {
           kept = record {
-            ends = joined_ends S.last c c' β r c.trail.sized short j k.left k.ends;
-            left = joined_left S.last c c' β r c.trail.sized short j k.left;
+            ends = joined_ends S.last c c' β r j k.left k.ends;
+            left = joined_left S.last c c' β r j k.left;
             room = k.room;
             filled = let q = k.filled in omega arith;
             next = let q = k.next in omega arith;

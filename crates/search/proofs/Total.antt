@@ -3,6 +3,7 @@ use Rattle.std.proofs.Common.{◌≡◌, ℕ, zero, suc, pred, ◌+◌, ◌-◌,
 use Rattle.std.proofs.lemmas.Map.{update_apart}
 use Rattle.std.proofs.lemmas.Bool.{le-ltb}
 use Rattle.std.proofs.lemmas.Bool.Decides.{nat_tests}
+use Rattle.std.proofs.lemmas.Option.{none-some}
 use Rattle.blocks.specs.declared.bound.Bound.{Bound}
 use Rattle.blocks.specs.declared.bound.Bound.TheVariants.{AtMost, AtLeast}
 use Rattle.blocks.specs.Bounds.{setting, rank}
@@ -13,10 +14,10 @@ use Rattle.blocks.specs.declared.line.Line.{Line}
 use Rattle.blocks.specs.Lines.{t_line, r_line, e_line}
 use Rattle.search.specs.Search.{First}
 use Rattle.search.specs.Search.{Entry, decided, forced, region, IsReason, State, cold, Outcome, learnt, over, Analysis, out, pass, into, stop, turn, FreeSlot, Verdict, found, none, no_slot, blocks_of, region_of, Hit, NotDead, Conflict, Step, force, decide, learn, Ends, all_dead, run_out, full, Steps, here, on, Run}
-use Rattle.blocks.proofs.Ranging.{TrueAt, FalseAt, OpenAt, true_at, false_at, open_at, broken_inside, covers_forces}
+use Rattle.blocks.proofs.Ranging.{broken_inside, covers_forces}
 use Rattle.search.proofs.Sound.{Sound, Good, Came, sound_open, region_stands, stands, conflict_sound, steps_good, good_start, resolved}
 use Rattle.blocks.proofs.Numbers.{Lawful, some_same}
-use Rattle.search.proofs.Least.{cases_lt, cases_eq, Either, first_below}
+use Rattle.search.proofs.Least.{three, cases_lt, cases_eq, Either, first_below}
 use Rattle.search.proofs.Same.{bound_same}
 use Rattle.search.proofs.Ends.{Lists, left, step_falls}
 
@@ -89,22 +90,15 @@ pub data Status (last : ℕ → ℕ) (g b : Ranges) : Type 0 where
   opens : (β : Bound) → FirstOpen last g b β → ¬ Dead last g b → ¬ Forcing last g b → Status last g b
 
 module _ (S : Sheet) (pr : Proper S) (g : Ranges) (st : Stands S.last g) where
-  abbrev pub three : (β : Bound) → True g β ⊎ (False g β ⊎ Open g β)
-  three β = ⊎_elim (λ t. inl ((true_at S.last g st β).1 t)) (⊎_elim (λ f. inr (inl ((false_at S.last g st β).1 f))) (λ o. inr (inr ((open_at S.last g st β).1 o)))) (numbers β)
-    where
-      numbers : (β : Bound) → TrueAt g β ⊎ (FalseAt g β ⊎ OpenAt g β)
-      numbers (AtMost s p) = elim (cases_lt p (g.low s)) [ inl l ↦ inr (inl l) | inr l ↦ elim (cases_lt p (g.high s)) [ inl k ↦ inr (inr (l, k)) | inr k ↦ inl k ] ]
-      numbers (AtLeast s p) = elim (cases_lt (g.high s) p) [ inl l ↦ inr (inl l) | inr l ↦ elim (cases_lt (g.low s) p) [ inl k ↦ inr (inr (k, l)) | inr k ↦ inl k ] ]
-
   -- a true bound is not false: the region has a profile
   pub not_false : (β : Bound) → True g β → ¬ False g β
   not_false β t f = f g.low (λ i. let k = st i in omega arith) (t g.low (λ i. let k = st i in omega arith))
 
   abbrev pub true_or_not : (β : Bound) → Either (True g β)
-  true_or_not β = ⊎_elim (λ t. inl t) (⊎_elim (λ f. inr (λ t. not_false β t f)) (λ o. inr o.0)) (three β)
+  true_or_not β = ⊎_elim (λ t. inl t) (⊎_elim (λ f. inr (λ t. not_false β t f)) (λ o. inr o.0)) (three S.last g st β)
 
   abbrev pub open_or_not : (β : Bound) → Either (Open g β)
-  open_or_not β = ⊎_elim (λ t. inr (λ o. o.0 t)) (⊎_elim (λ f. inr (λ o. o.1 f)) (λ o. inl o)) (three β)
+  open_or_not β = ⊎_elim (λ t. inr (λ o. o.0 t)) (⊎_elim (λ f. inr (λ o. o.1 f)) (λ o. inl o)) (three S.last g st β)
 
   pub dead_not_broken : (b : Ranges) → Dead S.last g b → ¬ Broken S.last g b
   dead_not_broken b d br = not_false d.0 d.2 (br d.0 d.1)
@@ -116,7 +110,7 @@ module _ (S : Sheet) (pr : Proper S) (g : Ranges) (st : Stands S.last g) where
   status b sb = ⊎_elim (λ d. dead (d.0, d.1, d.2)) alive (first_bound S pr b sb (True g) true_or_not)
     where
       else : (γ : Bound) → ¬ True g γ → ¬ Open g γ → False g γ
-      else γ t o = ⊎_elim (λ h. absurd (t h)) (⊎_elim (λ f. f) (λ h. absurd (o h))) (three γ)
+      else γ t o = ⊎_elim (λ h. absurd (t h)) (⊎_elim (λ f. f) (λ h. absurd (o h))) (three S.last g st γ)
 
       other : (β : Bound) → (γ : Bound) → Either (Open g γ × (rank γ ≢ rank β))
       other β γ = ⊎_elim (λ o. ⊎_elim (λ e. inr (λ h. h.1 e)) (λ n. inl (o, n)) (cases_eq (rank γ) (rank β))) (λ n. inr (λ h. n h.0)) (open_or_not γ)
@@ -148,9 +142,6 @@ step_housed S m (learn {st = a} {w = v} {j = j} c fr h) w = record {
       [ inl p ↦ let k = fr.inside in omega arith | inr n ↦ w.inside i b (sym (update_apart a.slots j (Some v) i n) ∙ e) ];
 }
 
-pub none_some : {b : Ranges} → ◌≡◌ {A = Option Ranges} None (Some b) → ⊥
-none_some e = let z : ◌≡◌ {A = ℕ} 0 1 = cc in omega arith
-
 pub block_below : (S : Sheet) (m : ℕ) (st : State) → Housed m st → (k : ℕ) (b : Ranges) → blocks_of S m st k ≡ Some b → k < 100 + m
 block_below S m st w k b e = elim (cases_lt k 100) [
   | inl l ↦ omega arith
@@ -162,7 +153,7 @@ module _ (S : Sheet) (pr : Proper S) (m : ℕ) (st : State) (g : Good S st) (w :
   at_block P dec k = go (blocks_of S m st k) refl
     where
       go : (o : Option Ranges) → blocks_of S m st k ≡ o → Either ((b : Ranges) × (blocks_of S m st k ≡ Some b) × P b)
-      go None e = inr (λ h. none_some (sym e ∙ h.1))
+      go None e = inr (λ h. none-some _ (sym e ∙ h.1))
       go (Some b) e = ⊎_elim (λ p. inl (b, e, p)) (λ n. inr (λ h. n (subst P (some_same h.1 e) h.2))) (dec b (g.blocks k b e).0)
 
   abbrev pub first_block : (P : Ranges → Type 0) → ((b : Ranges) → Stands S.last b → Either (P b))
@@ -223,7 +214,7 @@ analysis_exists S pr blocks law (e ∷ t) w snd ins st = go (inside_or_not S pr 
     go (inr n) ih (forced β k) snd ins = at (blocks k) refl
       where
         at : (o : Option Ranges) → blocks k ≡ o → (ls : List Line) × (o : Outcome) × Analysis S.last blocks (forced β k ∷ t) w ls o
-        at None e = absurd (none_some (sym e ∙ snd.2.1))
+        at None e = absurd (none-some _ (sym e ∙ snd.2.1))
         at (Some b) e =
             let did = resolved S blocks law β k b t w e snd ins st in
             let r = ih (resolve (setting β) w b) snd.1 did.1 did.2 in
@@ -294,4 +285,4 @@ module _ (S : Sheet) (pr : Proper S) (B : List Bound) (all : Lists S B) (m : ℕ
 
   -- every sheet has a run
   abbrev pub run_exists : (ls : List Line) × (v : Verdict) × (end : State) × Run S m cold ls v end
-  run_exists = run_from (suc (left (length B) cold)) cold [] here (record { inside = λ j b e. absurd (none_some e) }) (omega arith)
+  run_exists = run_from (suc (left (length B) cold)) cold [] here (record { inside = λ j b e. absurd (none-some _ e) }) (omega arith)

@@ -1,31 +1,30 @@
 -- The trail of the program, entry by entry.
-use Rattle.std.proofs.Common.{◌≡◌, ℕ, zero, suc, ◌+◌, ◌-◌, ◌<◌, ◌≤◌, ◌⊎◌, List, ◌∷◌, get_or, refl, ap, subst, inl, inr, ⊎_elim, arith}
+use Rattle.std.proofs.Common.{◌≡◌, ℕ, zero, suc, ◌<◌, ◌≤◌, ◌⊎◌, List, ◌∷◌, ◌++◌, length, get_or, take, drop, Some, None, sym, refl, ap, ◌∙◌, subst, inl, inr, ⊎_elim, arith}
 use Rattle.std.proofs.lemmas.Bool.{cases_eq}
-use Rattle.std.proofs.lemmas.Bool.Decides.{nat_tests}
+use Rattle.std.proofs.lemmas.List.{get_or-take, get_or_append_left, length-take-le, take-append-drop}
 use Rattle.blocks.specs.declared.bound.Bound.{Bound}
-use Rattle.search.specs.declared.trail.Reason.{Reason}
-use Rattle.search.specs.declared.trail.Reason.TheVariants.{Decided, Forced}
+use Rattle.blocks.specs.Ranges.{end}
 use Rattle.search.specs.declared.trail.TrailEntry.{TrailEntry}
-use Rattle.search.specs.Search.{Entry, bound_of, IsReason, turn}
-use Rattle.search.specs.Trails.{reasoned, no_entry, trail_below}
+use Rattle.search.specs.Search.{Entry, bound_of, region, IsReason}
+use Rattle.search.specs.Trails.{Reason, reasoned, entry_of, no_entry, trail_below, KeepsEnds}
 
 pub reasoned_bound : (β : Bound) (r : Reason) → bound_of (reasoned β r) ≡ β
-reasoned_bound β Decided = refl
-reasoned_bound β (Forced k) = refl
+reasoned_bound β None = refl
+reasoned_bound β (Some k) = refl
 
 -- reasons
-reason_first : (β : Bound) (r : Reason) (t : List Entry) (k : ℕ) → r ≡ Forced k → IsReason (reasoned β r ∷ t) k
-reason_first β Decided t k e = let z : ◌≡◌ {A = ℕ} 0 1 = cc in absurd (omega arith)
-reason_first β (Forced j) t k e = let q : j ≡ k = cc in inl q
+reason_first : (β : Bound) (r : Reason) (t : List Entry) (k : ℕ) → r ≡ Some k → IsReason (reasoned β r ∷ t) k
+reason_first β None t k e = let z : ◌≡◌ {A = ℕ} 0 1 = cc in absurd (omega arith)
+reason_first β (Some j) t k e = let q : j ≡ k = cc in inl q
 
 reason_rest : (β : Bound) (r : Reason) (t : List Entry) (k : ℕ) → IsReason t k → IsReason (reasoned β r ∷ t) k
-reason_rest β Decided t k h = h
-reason_rest β (Forced j) t k h = inr h
+reason_rest β None t k h = h
+reason_rest β (Some j) t k h = inr h
 
-reason_cases : (β : Bound) (r : Reason) (t : List Entry) (k : ℕ) → IsReason (reasoned β r ∷ t) k → (r ≡ Forced k) ⊎ IsReason t k
-reason_cases β Decided t k h = inr h
-reason_cases β (Forced j) t k (inl e) = inl (ap Forced e)
-reason_cases β (Forced j) t k (inr h) = inr h
+reason_cases : (β : Bound) (r : Reason) (t : List Entry) (k : ℕ) → IsReason (reasoned β r ∷ t) k → (r ≡ Some k) ⊎ IsReason t k
+reason_cases β None t k h = inr h
+reason_cases β (Some j) t k (inl e) = inl (ap Some e)
+reason_cases β (Some j) t k (inr h) = inr h
 
 module _ (xs : List TrailEntry) (k : ℕ) where
   pub reason_later : (n m : ℕ) → n ≤ m → IsReason (trail_below xs n) k → IsReason (trail_below xs m) k
@@ -35,21 +34,34 @@ module _ (xs : List TrailEntry) (k : ℕ) where
     | inr ne ↦ reason_rest (get_or xs m no_entry).bound (get_or xs m no_entry).reason (trail_below xs m) k (reason_later n m (omega arith) h)
   ]
 
-  pub reason_at : (n m : ℕ) → n < m → (get_or xs n no_entry).reason ≡ Forced k → IsReason (trail_below xs m) k
+  pub reason_at : (n m : ℕ) → n < m → (get_or xs n no_entry).reason ≡ Some k → IsReason (trail_below xs m) k
   reason_at n m l e = reason_later (suc n) m l (reason_first (get_or xs n no_entry).bound (get_or xs n no_entry).reason (trail_below xs n) k e)
 
-  pub no_reason_more : (n : ℕ) → ((get_or xs n no_entry).reason ≡ Forced k → ⊥) → (IsReason (trail_below xs n) k → ⊥) → IsReason (trail_below xs (suc n)) k → ⊥
-  no_reason_more n a b h = ⊎_elim a b (reason_cases (get_or xs n no_entry).bound (get_or xs n no_entry).reason (trail_below xs n) k h)
+  -- the block is no entry's reason where it is that of none of the first n
+  pub no_reason : (n : ℕ) → ((i : ℕ) → i < n → (get_or xs i no_entry).reason ≡ Some k → ⊥) → IsReason (trail_below xs n) k → ⊥
+  no_reason zero h r = r
+  no_reason (suc n) h r = ⊎_elim (h n (omega arith)) (no_reason n (λ i l. h i (omega arith))) (reason_cases (get_or xs n no_entry).bound (get_or xs n no_entry).reason (trail_below xs n) k r)
 
--- the round of slots: what comes at its τ-th turn
-module _ (m next : ℕ) (l : next ≤ m) where
-  pub turn_inside : (τ j : ℕ) → τ < m → ((next + τ < m) × (j ≡ next + τ)) ⊎ ((m ≤ next + τ) × (j ≡ next + τ - m)) → (j < m) × (turn m next j ≡ next + τ)
-  turn_inside τ j h (inl w) = grind (arith, nat_tests)
-  turn_inside τ j h (inr w) = grind (arith, nat_tests)
+-- the first entries of a longer list, and of its front
+pub below_front : (xs ys : List TrailEntry) (n : ℕ) → n ≤ length xs → trail_below (xs ++ ys) n ≡ trail_below xs n
+below_front xs ys zero l = refl
+below_front xs ys (suc n) l =
+    let a = get_or_append_left xs ys no_entry n l in
+    let b = below_front xs ys n (omega arith) in
+    λ i. entry_of (a i) ∷ b i
 
-  -- every slot comes once, in the order of its turn
-  pub turn_of : (i : ℕ) → i < m → (next ≤ turn m next i) × (turn m next i - next < m)
-  turn_of i h = grind (arith, nat_tests)
+pub below_take : (xs : List TrailEntry) (n k : ℕ) → k ≤ n → n ≤ length xs → trail_below (take n xs) k ≡ trail_below xs k
+below_take xs n k m l =
+    sym (below_front (take n xs) (drop n xs) k (omega (arith, length-take-le n xs l))) ∙ ap (λ (ys : List TrailEntry). trail_below ys k) (take-append-drop n xs)
 
-  pub turn_same : (i j : ℕ) → i < m → j < m → turn m next i ≡ turn m next j → i ≡ j
-  turn_same i j p q e = grind (arith, nat_tests)
+-- they keep the ends that they narrowed
+pub keeps_take : (last : ℕ → ℕ) (xs : List TrailEntry) (n : ℕ) → n ≤ length xs → KeepsEnds last xs → KeepsEnds last (take n xs)
+keeps_take last xs n l ends k m =
+    let h : k < n = omega (arith, length-take-le n xs l) in
+    let a = get_or-take n xs k no_entry h in
+    let b = below_take xs n k (omega arith) l in
+    ap (λ (e : TrailEntry). e.end) a ∙ ends k (omega arith) ∙ sym (λ i. end (a i).bound (region last (b i)))
+
+pub length_below : (xs : List TrailEntry) (n : ℕ) → length (trail_below xs n) ≡ n
+length_below xs zero = refl
+length_below xs (suc n) = ap suc (length_below xs n)

@@ -5,7 +5,8 @@ use Rattle.blocks.specs.declared.bound.Bound.{Bound}
 use Rattle.blocks.specs.declared.bound.Bound.TheVariants.{AtMost, AtLeast}
 use Rattle.blocks.specs.declared.line.Line.{Line}
 use Rattle.blocks.specs.Bounds.{Profile}
-use Rattle.blocks.specs.Ranges.{Ranges, Stands, In, everything}
+use Rattle.blocks.specs.Meeting.{Impossible}
+use Rattle.blocks.specs.Ranges.{Ranges, Stands, In}
 use Rattle.blocks.specs.Sheets.{Sheet, Breaks}
 use Rattle.blocks.specs.Status.{BoundOf}
 use Rattle.search.specs.Search.{State, cold, bound_of, Verdict, found, none, no_slot, Steps, Run}
@@ -23,10 +24,6 @@ Distinct (x ∷ xs) = (¬ Mem x xs) × Distinct xs
 abbrev pub OfARule : Sheet → Bound → Type 0
 OfARule S β = (i : ℕ) × (b : Ranges) × (slice_get S.rules i ≡ Some b) × BoundOf S.last b β
 
--- every profile breaks some rule
-abbrev pub AllBreak : Sheet → Type 0
-AllBreak S = (x : Profile) → In (everything S.last) x → Breaks S x
-
 -- Over m slots.
 module _ (S : Sheet) (m : ℕ) where
   -- there is a run, and only one: the same lines, the same verdict with its region, the same end with its slots
@@ -40,9 +37,9 @@ module _ (S : Sheet) (m : ℕ) where
 
   -- "none" is said exactly where every profile breaks some rule, and no profile of a region found breaks one
   pub record VerdictIsRight : Type 0 where
-    pub none_rightly : (ls : List Line) (end : State) → Run S m cold ls none end → AllBreak S
+    pub none_rightly : (ls : List Line) (end : State) → Run S m cold ls none end → Impossible S
     pub found_rightly : (ls : List Line) (b : Ranges) (end : State) → Run S m cold ls (found b) end → Stands S.last b × ((x : Profile) → In b x → ¬ Breaks S x)
-    pub none_exactly : 193 ≤ m → (ls : List Line) (v : Verdict) (end : State) → Run S m cold ls v end → (v ≡ none) ↔ AllBreak S
+    pub none_exactly : 193 ≤ m → (ls : List Line) (v : Verdict) (end : State) → Run S m cold ls v end → (v ≡ none) ↔ Impossible S
 
   -- the bounds on the trail are different bounds of the rules
   abbrev pub TrailOfTheRules : Type 0

@@ -1,10 +1,9 @@
 -- The blocks of a search by their numbers.
 use Rattle.std.specs.Prelude.{ℕ, ◌+◌, List, Some, None, Option}
-use Rattle.blocks.specs.declared.slot.Slot.{Slot}
 use Rattle.blocks.specs.declared.standing.Standing.{Standing}
 use Rattle.blocks.specs.Ranges.{Ranges}
 use Rattle.blocks.specs.Sheets.{block_at}
-use Rattle.blocks.specs.Slots.{slot_at}
+use Rattle.blocks.specs.Slots.{Slot, slot_at}
 use Rattle.blocks.specs.Views.{blocks}
 
 abbrev pub numbered : List Standing → List Slot → ℕ → Option Ranges

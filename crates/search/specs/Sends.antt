@@ -2,6 +2,7 @@
 use Rattle.std.specs.Prelude.{◌≡◌, ℕ, suc, min, List, [], ◌∷◌, ◌++◌, length, Some, None, Option}
 use Rattle.blocks.specs.declared.line.Line.{Line}
 use Rattle.blocks.specs.Sinks.{Step, taken, refused}
+use Rattle.search.specs.declared.verdict.FirstRefusal.{FirstRefusal}
 
 -- a count of lines, stopping at 4,294,967,295
 abbrev pub counted : ℕ → ℕ
@@ -15,7 +16,7 @@ module _ {M : Type 0} (step : M → Line → Step M) where
 
   -- Of the lines that are made, the sink takes all, and there is no refusal; or it takes those before l and refuses l by
   -- a number, and is sent no more: the refusal is that number, with the count of lines at l, itself counted.
-  pub data Sends (s : M) (lines : List Line) : List Line → Option (ℕ × ℕ) → M → Type 0 where
+  pub data Sends (s : M) (lines : List Line) : List Line → Option FirstRefusal → M → Type 0 where
     all_taken : {t : M} → Takes s lines t → Sends s lines lines None t
     refused_at : {ts : List Line} {l : Line} {n : ℕ} {t : M} (us : List Line) → lines ≡ ts ++ l ∷ us → Takes s ts t → step t l ≡ refused n
-        → Sends s lines (ts ++ l ∷ []) (Some (n, counted (suc (length ts)))) t
+        → Sends s lines (ts ++ l ∷ []) (Some (record { number = n; line = counted (suc (length ts)) })) t

@@ -3,17 +3,22 @@ use Rattle.std.specs.Prelude.{ℕ, ◌+◌, List, [], ◌∷◌, Some, None, Opt
 use Rattle.blocks.specs.declared.line.Line.{Line}
 use Rattle.blocks.specs.Sinks.{Step, taken, refused}
 use Rattle.search.specs.declared.tally.Tally.{Tally}
+use Rattle.search.specs.declared.verdict.FirstRefusal.{FirstRefusal}
 use Rattle.search.specs.Sends.{counted}
 
-abbrev pub first_refusal : {M : Type 0} → Option (ℕ × ℕ) → ℕ → Step M → Option (ℕ × ℕ)
+abbrev pub first_refusal : {M : Type 0} → Option FirstRefusal → ℕ → Step M → Option FirstRefusal
 first_refusal (Some r) count s = Some r
 first_refusal None count (taken t) = None
-first_refusal None count (refused n) = Some (n, count)
+first_refusal None count (refused n) = Some (record { number = n; line = count })
 
-abbrev pub sink_after : {M : Type 0} → Option (ℕ × ℕ) → M → Step M → M
+abbrev pub sink_after : {M : Type 0} → Option FirstRefusal → M → Step M → M
 sink_after (Some r) s x = s
 sink_after None s (taken t) = t
 sink_after None s (refused n) = s
+
+-- no line is made
+abbrev pub untold : Tally
+untold = record { lines = 0; refused = None }
 
 -- the tally and the sink's state
 pub record Feed (M : Type 0) : Type 0 where

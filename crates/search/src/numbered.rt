@@ -9,7 +9,8 @@ use blocks::block::Block;
 use blocks::slot::Slot;
 use blocks::standing::Standing;
 
-// The blocks of a search by their numbers: rule i is block i, slot j is block 100 + j.
+// The blocks of a search by their numbers: rule i is block i, slot j is block 100 + j. The judge looks
+// blocks up by itself: it shares no code with the search, so that a mistake here is none of its own.
 #[derive(Clone, Copy)]
 pub struct Numbered<'r, 's> {
     pub rules: &'r [Standing],
@@ -21,10 +22,7 @@ fn block_of_slot(slot: Option<usize>) -> Option<usize>
     requires { IfSome slot (λ j. j < 4096) }
     ensures { result ≡ slot_numbers slot }
 {
-    match slot {
-        Some(j) => Some(100 + j),
-        None => None,
-    }
+    slot.map(|j| 100 + j)
 }
 
 impl Numbered<'_, '_> {
@@ -33,17 +31,10 @@ impl Numbered<'_, '_> {
         ensures { option_map ranges result ≡ numbered self.now.rules.now self.now.filled.now block }
     {
         if block < 100 {
-            if block < self.rules.len() {
-                return Some(self.rules[block].block);
-            }
-            return None;
+            self.rules.get(block).map(|rule| rule.block)
+        } else {
+            self.filled.get(block - 100).copied().flatten()
         }
-        let slot = block - 100;
-        if slot < self.filled.len() {
-            let held = self.filled[slot];
-            return held.block();
-        }
-        None
     }
 
     // The first block, in the order of numbers, that is broken or forcing in a region.

@@ -30,10 +30,7 @@ impl Place for Slot {
     ghost holds = { slot_holds };
 
     fn block(&self) -> Option<Block> {
-        match self {
-            Slot::Empty => None,
-            Slot::Filled(block) => Some(*block),
-        }
+        *self
     }
 }
 
@@ -48,7 +45,8 @@ pub enum Scan {
     Quiet(Option<usize>),
 }
 
-// Goes over places in order, up to the first block that is broken or forcing in a region.
+// Goes over places in order, up to the first block that is broken or forcing in a region. The project
+// wants the scan as a loop with an index, and in it one over the settings, left by a label.
 pub fn scan_over<P: Place>(region: &Block, places: &[P]) -> Scan
     ensures { Scanned (ranges region.now) (holding P.Place.holds places.now) (length places.now) result }
 {

@@ -1,14 +1,15 @@
 ghost use Rattle.std.specs.Prelude.{◌≡◌};
 ghost use Rattle.search.specs.Tallies.{feed, fed};
 
+use crate::verdict::FirstRefusal;
 use blocks::line::Line;
 use blocks::sink::Sink;
 
-// The lines made so far, counted, and the sink's first refusal: its number, and the count at that line.
-#[derive(Clone, Copy)]
+// The lines made so far, counted, and the sink's first refusal.
+#[derive(Clone, Copy, Default)]
 pub struct Tally {
     pub lines: u32,
-    pub refused: Option<(u32, u32)>,
+    pub refused: Option<FirstRefusal>,
 }
 
 impl Tally {
@@ -18,9 +19,12 @@ impl Tally {
         ensures kept { K.lent sink.new ≡ K.lent sink.old }
     {
         self.lines = self.lines.saturating_add(1);
-        if let None = self.refused {
+        if self.refused.is_none() {
             if let Err(number) = sink.take(line) {
-                self.refused = Some((number, self.lines));
+                self.refused = Some(FirstRefusal {
+                    number,
+                    line: self.lines,
+                });
             }
         }
     }

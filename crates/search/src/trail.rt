@@ -1,16 +1,13 @@
-ghost use Rattle.std.specs.Prelude.{◌≡◌, ◌≤◌, length};
+ghost use Rattle.std.specs.Prelude.{◌≡◌, []};
+ghost use Rattle.search.specs.Trails.{no_entry};
 
+use arrayvec::ArrayVec;
 use blocks::bound::Bound;
 
-pub mod entries;
 pub mod reasons;
 
-// Why a bound is on the trail: it was decided, or the block of this number forced it.
-#[derive(Clone, Copy)]
-pub enum Reason {
-    Decided,
-    Forced(usize),
-}
+// Why a bound is on the trail: the number of the block that forced it, or none where it was decided.
+pub type Reason = Option<usize>;
 
 // An entry of the trail. It keeps the end that its bound has narrowed, so that it can be undone.
 #[derive(Clone, Copy)]
@@ -20,11 +17,32 @@ pub struct TrailEntry {
     pub reason: Reason,
 }
 
+// What an unused place of a trail holds. No derive: a bound has no default of its own.
+impl Default for TrailEntry {
+    ghost is_default = { λ e. e ≡ no_entry };
+
+    fn default() -> TrailEntry {
+        TrailEntry {
+            bound: Bound::AtMost(0, 0),
+            end: 0,
+            reason: None,
+        }
+    }
+}
+
 // The entries so far, the last one last. A sheet has at most 192 bounds, and a trail each at most once.
-#[derive(Clone, Copy)]
+#[derive(Drop)]
 pub struct Trail {
-    entries: [TrailEntry; 192],
-    len: usize,
-    ghost sized: { length entries ≡ 192 },
-    ghost few: { len ≤ 192 },
+    pub(crate) entries: ArrayVec<TrailEntry, 192>,
+}
+
+impl Trail {
+    // No entry.
+    pub(crate) fn new() -> Trail
+        ensures { result.entries.items ≡ [] }
+    {
+        Trail {
+            entries: ArrayVec::new(),
+        }
+    }
 }

@@ -1,20 +1,18 @@
 use blocks::block::Block;
 
-// What a search says.
-#[derive(Clone, Copy)]
-pub enum Answer {
-    // every profile of this region meets every rule
-    Found(Block),
-    // no profile meets every rule
-    Nothing,
+// A sink's first refusal: its number, and the count of lines made at that line, the line itself counted.
+#[derive(Clone, Copy, PartialEq, Eq, Debug)]
+pub struct FirstRefusal {
+    pub number: u32,
+    pub line: u32,
 }
 
 // The verdict of a search that was carried out.
 #[derive(Clone, Copy)]
 pub struct Verdict {
-    pub answer: Answer,
+    // the region found, every profile of which meets every rule; none where no profile meets them all
+    pub found: Option<Block>,
     // the count of lines made, stopping at 4,294,967,295
     pub lines: u32,
-    // the sink's first refusal: its number, and the count of lines at that line
-    pub refused: Option<(u32, u32)>,
+    pub refused: Option<FirstRefusal>,
 }

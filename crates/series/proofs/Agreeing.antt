@@ -1,6 +1,7 @@
 -- A judge takes the lines of each step of a search, and those of an end in "none".
 use Rattle.std.proofs.Common.{◌≡◌, ℕ, ◌<◌, ◌≤◌, List, ◌∷◌, Some, None, Option, sym, refl, subst, inl, inr, arith}
 use Rattle.std.proofs.lemmas.Bool.{cases_lt}
+use Rattle.std.proofs.lemmas.Option.{none-some}
 use Rattle.blocks.specs.declared.bound.Bound.{Bound}
 use Rattle.blocks.specs.declared.bound.Bound.TheVariants.{AtMost, AtLeast}
 use Rattle.blocks.specs.declared.line.Line.{Line}
@@ -13,7 +14,7 @@ use Rattle.blocks.proofs.Ranging.{OpenAt, broken_inside}
 use Rattle.checker.specs.Courts.{Phase, idle, working, ended}
 use Rattle.search.specs.Search.{Entry, region, State, cold, Outcome, learnt, over, Analysis, out, pass, into, stop, Verdict, none, blocks_of, region_of, Conflict, Step, force, decide, learn, Ends, all_dead, run_out, full, Steps, here, on, Run}
 use Rattle.search.proofs.Sound.{Sound, Good, sound_open, region_stands, resolved, stands, steps_good, good_start}
-use Rattle.search.proofs.Total.{Housed, step_housed, none_some, block_below}
+use Rattle.search.proofs.Total.{Housed, step_housed, block_below}
 use Rattle.series.proofs.Taking.{Brings, brings_none, brings_on, Sits, t_taken, r_taken, k_taken, e_taken}
 
 -- an open bound is one of a declared setting
@@ -60,7 +61,7 @@ module _ (S : Sheet) (pr : Proper S) (m n : ℕ) (few : m ≤ 4096) (room : m �
   step_taken (learn {st = a} {w = v} {j = j} c fr h) g w = brings_on (conflict_taken a g w c) (k_taken S pr n a.slots v j (omega (arith, fr.inside)) (omega (arith, fr.inside)))
 
   steps_housed : {b : State} {ls : List Line} → Steps S m cold ls b → Housed m b
-  steps_housed here = record { inside = λ j b e. absurd (none_some e) }
+  steps_housed here = record { inside = λ j b e. absurd (none-some _ e) }
   steps_housed (on p q) = step_housed S m q (steps_housed p)
 
   steps_taken : {b : State} {ls : List Line} → Steps S m cold ls b → Brings (Sits S n (λ _. None) idle) ls (Sits S n b.slots idle)

@@ -2,14 +2,13 @@
 use Rattle.std.proofs.Common.{◌≡◌, ℕ, suc, ◌≤◌, List, [], ◌∷◌, ◌++◌, length, Some, None, Ok, Err, Option, Result, sym, refl, ap, ◌∙◌, subst, ap₂, inl, inr, arith, MatchOption}
 use lib.ListN.{length-map}
 use Rattle.scales.specs.declared.refusal.Refusal.{Refusal}
+use Rattle.blocks.specs.declared.block.Block.{Block}
 use Rattle.blocks.specs.declared.line.Line.{Line}
-use Rattle.blocks.specs.declared.slot.Slot.{Slot}
 use Rattle.blocks.specs.Ranges.{Ranges}
 use Rattle.blocks.specs.Sheets.{Sheet}
 use Rattle.blocks.specs.Sinks.{Step, taken, refused, next_of, state_after}
-use Rattle.blocks.specs.Slots.{slot_holds, holdings}
-use Rattle.search.specs.declared.verdict.Answer.{Answer}
-use Rattle.search.specs.declared.verdict.Answer.TheVariants.{Found, Nothing}
+use Rattle.blocks.specs.Slots.{Slot, slot_holds, holdings}
+use Rattle.search.specs.declared.verdict.FirstRefusal.{FirstRefusal}
 use Rattle.search.specs.declared.verdict.Verdict.{Verdict as Answered}
 use Rattle.search.specs.Search.{cold, no_slot, Run}
 use Rattle.search.specs.Sends.{Takes, takes_none, takes_more, Sends, all_taken, refused_at}
@@ -36,7 +35,7 @@ module _ {M : Type 0} (step : M → Line → Step M) (from : M) where
       )
 
   -- what it was sent, and the state that it is in then
-  heard : {lines sent : List Line} {stop : Option (ℕ × ℕ)} {to : M} → Sends step from lines sent stop to
+  heard : {lines sent : List Line} {stop : Option FirstRefusal} {to : M} → Sends step from lines sent stop to
       → (to ≡ state_after step from sent) × ((ts : List Line) × Sends (hears (hearer step from)) [] lines sent stop ts)
   heard (all_taken h) = let r = took h in (r.0, (_, all_taken r.1))
   heard (refused_at {ts = ts} {l = l} {n = n} {t = t} us e h is) =
@@ -76,16 +75,16 @@ searched_searches step S before after from to t room s =
     )
 
 -- an answer is no want of a slot
-answers : (a : Answer) → ¬ (verdict_of a ≡ no_slot)
-answers (Found b) e = let z : ◌≡◌ {A = ℕ} 0 1 = cc in omega arith
-answers Nothing e = let z : ◌≡◌ {A = ℕ} 0 1 = cc in omega arith
+answers : (a : Option Block) → ¬ (verdict_of a ≡ no_slot)
+answers (Some b) e = let z : ◌≡◌ {A = ℕ} 0 1 = cc in omega arith
+answers None e = let z : ◌≡◌ {A = ℕ} 0 1 = cc in omega arith
 
 -- what a solve does, whatever the states of its sink are
 pub solved_solves : {M : Type 0} (step : M → Line → Step M) (S : Sheet) (before after : List Slot) (from to : M) (r : Result Answered Refusal) → Solved step S before after from to r
     → (sent : List Line) × (to ≡ state_after step from sent) × Solves S (holdings before) (hearer step from) (told r) sent (holdings after)
 solved_solves step S before after from to (Ok v) (room, s) =
     let q = searched_searches step S before after from to (told_by v) room s in
-    (q.0, q.1, carried_out (answers v.answer) q.2)
+    (q.0, q.1, carried_out (answers v.found) q.2)
 solved_solves step S before after from to (Err e) (inl t) =
     ([], t.sink, subst₂_solves t.is t.area (too_small (omega (arith, length-map before slot_holds, t.few))))
   where

@@ -9,6 +9,7 @@ use Rattle.record.specs.Pages.{Page, page, writes}
 use Rattle.record.specs.Readings.{TakesAll}
 use Rattle.record.proofs.Feeding.{joined_length, state_push, takes_push}
 use Rattle.record.proofs.Filling.{record_stands}
+use Rattle.search.specs.declared.verdict.FirstRefusal.{FirstRefusal}
 use Rattle.search.specs.Sends.{Takes, takes_none, takes_more, Sends, all_taken, refused_at}
 
 -- lines that were taken one by one are all taken
@@ -20,7 +21,7 @@ module _ {M : Type 0} (step : M → Line → Step M) where
       let on : step (state_after step s ls) l ≡ taken u = ap (λ (v : M). step v l) h.1 ∙ e in
       (takes_push step s u ls l h.0 on, state_push step s u ls l on)
 
-  none_refused : {s t : M} {ls sent : List Line} {stop : Option (ℕ × ℕ)} → Sends step s ls sent stop t → stop ≡ None → Takes step s ls t
+  none_refused : {s t : M} {ls sent : List Line} {stop : Option FirstRefusal} → Sends step s ls sent stop t → stop ≡ None → Takes step s ls t
   none_refused (all_taken k) e = k
   none_refused (refused_at us is k r) e = let z : ◌≡◌ {A = ℕ} 0 1 = cc in absurd (omega arith)
 

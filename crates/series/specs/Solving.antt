@@ -6,6 +6,7 @@ use Rattle.scales.specs.Stops.{no_place}
 use Rattle.blocks.specs.declared.line.Line.{Line}
 use Rattle.blocks.specs.Ranges.{Ranges}
 use Rattle.blocks.specs.Sheets.{Sheet}
+use Rattle.search.specs.declared.verdict.FirstRefusal.{FirstRefusal}
 use Rattle.search.specs.declared.verdict.Verdict.{Verdict as Answered}
 use Rattle.search.specs.Search.{State, cold, Verdict, no_slot, Run}
 use Rattle.search.specs.Sends.{counted, Sends}
@@ -30,7 +31,7 @@ filled slots (o ∷ os) = put_or (slots 0) o ∷ filled (λ j. slots (suc j)) os
 pub record Told : Type 0 where
   pub says : Verdict
   pub made : ℕ
-  pub stop : Option (ℕ × ℕ)
+  pub stop : Option FirstRefusal
 
 -- The one run of the search from a cold start, with its complete lines; those that the sink was sent; and what is left in
 -- the area.
@@ -53,7 +54,7 @@ pub data Solves (S : Sheet) (area : Area) (k : Hearer) : Result Told Refusal →
 
 -- what the code's answer tells
 abbrev pub told_by : Answered → Told
-told_by v = record { says = verdict_of v.answer; made = v.lines; stop = v.refused }
+told_by v = record { says = verdict_of v.found; made = v.lines; stop = v.refused }
 
 abbrev pub told : Result Answered Refusal → Result Told Refusal
 told (Ok v) = Ok (told_by v)

@@ -9,9 +9,8 @@ use Rattle.scales.specs.Stops.{number, line_place}
 use Rattle.scales.specs.Checks.{Refuses, Outcome}
 use Rattle.blocks.specs.declared.line.Line.{Line}
 use Rattle.blocks.specs.Ranges.{Ranges}
-use Rattle.blocks.specs.declared.slot.Slot.{Slot}
 use Rattle.blocks.specs.Sheets.{Sheet}
-use Rattle.blocks.specs.Slots.{slot_holds, holdings}
+use Rattle.blocks.specs.Slots.{Slot, slot_holds, holdings}
 use Rattle.blocks.specs.Sinks.{refused, result_of, next_of}
 use Rattle.record.specs.declared.halt.Cause.{Cause}
 use Rattle.record.specs.declared.halt.Cause.TheVariants.{Shape, Sink}

@@ -1,4 +1,3 @@
 pub mod Declaring
-pub mod Telling
 pub mod Posting
 pub mod Judging

@@ -1,5 +1,6 @@
 -- A draft: its settings in the order in which they were declared.
 use Rattle.std.specs.Prelude.{◌≡◌, ℕ, ◌<◌, List, [], ◌∷◌, ◌++◌, length, take, Ok, Err, Result}
+use Rattle.rows.specs.Items.{items}
 use Rattle.scales.specs.declared.refusal.Refusal.{Refusal}
 use Rattle.scales.specs.declared.refusal.Stop.TheVariants.{SettingsFull}
 use Rattle.scales.specs.Stops.{no_place}
@@ -11,7 +12,7 @@ abbrev pub lasts_of : Draft → List ℕ
 lasts_of d = take d.lasts.count d.lasts.last
 
 abbrev pub names_of : Draft → List Name
-names_of d = take d.lasts.count d.names
+names_of d = items d.names
 
 -- one setting more, behind the others, with the last position of its scale and its name; a thirteenth is refused, and then
 -- nothing changes

@@ -1,15 +1,15 @@
 // The profile held against every rule that stands: it breaks those whose block it is in.
 use crate::card::Card;
 use crate::choice::{CANDIDATE, Choice};
+use crate::desk::Desk;
 use crate::error::TourError;
 use blocks::block::Block;
-use blocks::ruleset::RuleSet;
 use scales::refusal::Refusal;
 
-pub(crate) fn show(rt: &impl Print, card: &Card, rules: &RuleSet) -> Result<(), TourError> {
+pub(crate) fn show(rt: &impl Print, desk: &Desk) -> Result<(), TourError> {
     println!(rt; "\nThe profile against the rules:")?;
-    for (number, standing) in rules.problem().rules().iter().enumerate() {
-        if is_in(card, &CANDIDATE, &standing.block)? {
+    for (number, standing) in desk.rules.problem().rules().iter().enumerate() {
+        if is_in(&desk.card, &CANDIDATE, &standing.block)? {
             println!(rt; "  breaks rule {number}")?;
         } else {
             println!(rt; "  meets rule {number}")?;

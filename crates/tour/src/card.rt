@@ -6,6 +6,7 @@ ghost use Rattle.blocks.specs.Views.{ranges};
 ghost use Rattle.tour.specs.Limits.{Between};
 
 use crate::limit::Limit;
+use crate::words::Amount;
 use blocks::block::Block;
 use blocks::bound::Bound;
 use blocks::lasts::Lasts;
@@ -15,6 +16,7 @@ use scales::refusal::Refusal;
 use scales::scale::Scale;
 use scales::whole::Whole;
 use scales::window::Window;
+use std::fmt;
 
 // What a setting of the card is about.
 #[derive(Clone, Copy)]
@@ -26,15 +28,6 @@ pub(crate) enum Quantity {
 }
 
 impl Quantity {
-    pub(crate) fn name(self) -> &'static str {
-        match self {
-            Quantity::QueueDepth => "queue depth",
-            Quantity::Timeout => "timeout",
-            Quantity::Temperature => "temperature",
-            Quantity::Grade => "grade",
-        }
-    }
-
     // what is written behind a value
     pub(crate) fn unit(self) -> &'static str {
         match self {
@@ -42,6 +35,17 @@ impl Quantity {
             Quantity::Timeout => " s",
             Quantity::Temperature => " C",
         }
+    }
+}
+
+impl fmt::Display for Quantity {
+    fn fmt<W: fmt::Write>(&self, f: &mut fmt::Formatter<W>) -> fmt::Result {
+        f.write_str(match self {
+            Quantity::QueueDepth => "queue depth",
+            Quantity::Timeout => "timeout",
+            Quantity::Temperature => "temperature",
+            Quantity::Grade => "grade",
+        })
     }
 }
 
@@ -59,6 +63,21 @@ impl<S: Scale> Setting<S> {
         ensures { Outcome (on_scale (S.Scale.on self.now.scale limit.value)) (λ b. b ≡ bound_at limit.side self.now.number (S.Scale.position self.now.scale limit.value)) result }
     {
         Bound::new(self.number, limit.side, &self.scale, limit.value)
+    }
+
+    // A value of this setting, with its unit.
+    pub(crate) fn amount(&self, value: S::Value) -> Amount<S::Value>
+        ensures { (result.quantity ≡ self.now.quantity) × (result.value ≡ value) }
+    {
+        let quantity = self.quantity;
+        Amount { quantity, value }
+    }
+
+    // The value at a position, with its unit; refused where the position is over the last.
+    pub(crate) fn amount_at(&self, position: u32) -> Result<Amount<S::Value>, Refusal>
+        ensures { Outcome (on_scale (position ≤ S.Scale.top self.now.scale)) (λ a. (a.quantity ≡ self.now.quantity) × (a.value ≡ S.Scale.standing self.now.scale position)) result }
+    {
+        Ok(self.amount(self.scale.value(position)?))
     }
 
     // Whether a value stands between the ends of a block; refused where it is not on the scale.

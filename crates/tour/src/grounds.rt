@@ -1,17 +1,15 @@
 // Grounds written by hand, line by line, for the conflict that the judge is opened on.
 use std::fmt;
 
-// A line of a record as its ten bytes, shown without the last, which ends the line.
+// A line of a record as its ten bytes, shown without byte 10, which ends the line.
 #[derive(Clone, Copy)]
 pub(crate) struct LineText<'a>(pub(crate) &'a [u8]);
 
 impl fmt::Display for LineText<'_> {
     fn fmt<W: fmt::Write>(&self, f: &mut fmt::Formatter<W>) -> fmt::Result {
-        for byte in self.0 {
-            if *byte != b'\n' {
-                let c = char::from(*byte);
-                write!(f, "{c}")?;
-            }
+        for byte in self.0.iter().filter(|byte| **byte != b'\n') {
+            let c = char::from(*byte);
+            write!(f, "{c}")?;
         }
         Ok(())
     }

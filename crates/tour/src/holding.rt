@@ -4,7 +4,7 @@ use crate::choice::{CANDIDATE, Choice};
 use crate::error::TourError;
 use crate::limit::Limit;
 use crate::makers::{ALDER, BIRCH, Maker};
-use crate::words::{Amount, LimitWords, Show};
+use crate::words::Show;
 use scales::scale::Scale;
 
 pub(crate) fn show(rt: &impl Print, card: &Card) -> Result<(), TourError> {
@@ -25,10 +25,9 @@ fn show_value<V: Show, S: Scale<Value = V>>(
     value: V,
 ) -> Result<(), TourError> {
     let quantity = setting.quantity;
-    let name = quantity.name();
-    let amount = Amount { quantity, value };
+    let amount = setting.amount(value);
     let position = setting.scale.place(value)?;
-    println!(rt; "  {name} {amount}: position {position}")?;
+    println!(rt; "  {quantity} {amount}: position {position}")?;
     Ok(())
 }
 
@@ -61,10 +60,7 @@ fn hold_one<V: Show, S: Scale<Value = V>>(
 ) -> Result<bool, TourError> {
     let met = limit.is_met_by(&setting.scale, value)?;
     if !met {
-        let words = LimitWords {
-            quantity: setting.quantity,
-            limit: *limit,
-        };
+        let words = limit.on(setting.quantity);
         println!(rt; "  {maker}: misses {words}")?;
     }
     Ok(met)

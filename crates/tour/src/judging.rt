@@ -5,11 +5,9 @@ use crate::demands::{DEEP_QUEUE, SHORT_TIMEOUT};
 use crate::error::TourError;
 use crate::grounds::{LineText, RIGHT, WRONG_RULE, WRONG_SETTING};
 use crate::rules::DEPTH_OR_TIMEOUT;
-use crate::words::RefusalWords;
 use blocks::rule::Rule;
 use blocks::ruleset::RuleSet;
 use blocks::sink::Sink;
-use blocks::slot::Slot;
 use checker::judge::Judge;
 use checker::open::open;
 use record::read::read_line;
@@ -31,12 +29,9 @@ pub(crate) fn show(rt: &impl Print, card: &Card) -> Result<(), TourError> {
 
 // Opens the rules for a judge, in the place that it will look them up in.
 fn open_conflict(card: &Card, place: &mut RuleSet) -> Result<(), Refusal> {
-    let either = [
-        DEPTH_OR_TIMEOUT.one.bound(card)?,
-        DEPTH_OR_TIMEOUT.other.bound(card)?,
-    ];
-    let deep = [DEEP_QUEUE.asked.bound(card)?];
-    let short = [SHORT_TIMEOUT.asked.bound(card)?];
+    let either = DEPTH_OR_TIMEOUT.bounds(card)?;
+    let deep = DEEP_QUEUE.bounds(card)?;
+    let short = SHORT_TIMEOUT.bounds(card)?;
     let rules = [
         Rule { bounds: &either },
         Rule { bounds: &deep },
@@ -53,7 +48,7 @@ fn show_judged(
 ) -> Result<(), TourError> {
     let mut place = RuleSet::new(card.lasts);
     open_conflict(card, &mut place)?;
-    let mut area = [Slot::Empty; 1];
+    let mut area = [None; 1];
     let mut judge = Judge::new(place.problem(), &mut area);
     let shown = show_lines(rt, &mut judge, record);
     // the judge is used up before anything can fail: no judge goes without a finding
@@ -61,10 +56,7 @@ fn show_judged(
     shown?;
     match found {
         Ok(()) => println!(rt; "  accepted: no profile meets these rules")?,
-        Err(refusal) => {
-            let refusal = RefusalWords(refusal);
-            println!(rt; "  the finding: {refusal}")?;
-        }
+        Err(refusal) => println!(rt; "  the finding: {refusal}")?,
     }
     Ok(())
 }
@@ -78,7 +70,6 @@ fn show_lines(
     for (before, bytes) in record.iter().enumerate() {
         let text = LineText(*bytes);
         if let Err(refusal) = hear(judge, *bytes, before as u64 + 1) {
-            let refusal = RefusalWords(refusal);
             return println!(rt; "  {text}: {refusal}");
         }
         println!(rt; "  {text}: taken")?;

@@ -8,8 +8,8 @@
 // a profile, and after one rule more finds none and writes its own grounds, which a judge reads.
 #![tactic(auto)]
 
-use blocks::ruleset::RuleSet;
 use card::Card;
+use desk::Desk;
 use error::TourError;
 
 mod admitting;
@@ -17,6 +17,7 @@ mod breaking;
 mod card;
 mod choice;
 mod demands;
+mod desk;
 mod error;
 mod grounds;
 mod holding;
@@ -36,9 +37,9 @@ fn main(rt: HostRuntime) -> Result<(), TourError> {
     placing::show(&rt, &card)?;
     refusing::show(&rt, &card)?;
     holding::show(&rt, &card)?;
-    let mut rules = RuleSet::new(card.lasts);
-    admitting::show(&rt, &card, &mut rules)?;
-    breaking::show(&rt, &card, &rules)?;
-    judging::show(&rt, &card)?;
-    searching::show(&rt, &card, &mut rules)
+    let mut desk = Desk::new(card);
+    admitting::show(&rt, &mut desk)?;
+    breaking::show(&rt, &desk)?;
+    judging::show(&rt, &desk.card)?;
+    searching::show(&rt, &mut desk)
 }

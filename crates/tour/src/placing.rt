@@ -3,7 +3,7 @@ use crate::card::{Card, Setting};
 use crate::error::TourError;
 use crate::limit::Limit;
 use crate::makers::{ALDER, BIRCH, Maker};
-use crate::words::{Amount, LimitWords, RefusalWords, Show};
+use crate::words::Show;
 use scales::scale::Scale;
 use std::io;
 
@@ -23,13 +23,10 @@ fn show_scale<V: Show, S: Scale<Value = V>>(
     setting: &Setting<S>,
 ) -> Result<(), TourError> {
     let quantity = setting.quantity;
-    let name = quantity.name();
     let last = setting.scale.last();
-    let value = setting.scale.value(0)?;
-    let from = Amount { quantity, value };
-    let value = setting.scale.value(last)?;
-    let to = Amount { quantity, value };
-    println!(rt; "  {name} from {from} to {to}: positions 0 to {last}")?;
+    let from = setting.amount_at(0)?;
+    let to = setting.amount_at(last)?;
+    println!(rt; "  {quantity} from {from} to {to}: positions 0 to {last}")?;
     Ok(())
 }
 
@@ -48,21 +45,13 @@ pub(crate) fn show_limit<V: Show, S: Scale<Value = V>>(
     setting: &Setting<S>,
     limit: &Limit<V>,
 ) -> io::Result<()> {
-    let quantity = setting.quantity;
-    let words = LimitWords {
-        quantity,
-        limit: *limit,
-    };
+    let words = limit.on(setting.quantity);
     match limit.place_on(&setting.scale) {
         Ok(placed) => {
             let position = placed.position;
-            let value = placed.value;
-            let back = Amount { quantity, value };
+            let back = setting.amount(placed.value);
             println!(rt; "  {words}: position {position}, read back {back}")
         }
-        Err(refusal) => {
-            let refusal = RefusalWords(refusal);
-            println!(rt; "  {words}: {refusal}")
-        }
+        Err(refusal) => println!(rt; "  {words}: {refusal}"),
     }
 }

@@ -1,7 +1,6 @@
 // A record that the search wrote, as text and before a judge.
-use crate::words::RefusalWords;
+use crate::grounds::LineText;
 use blocks::ruleset::RuleSet;
-use blocks::slot::Slot;
 use checker::judge::Judge;
 use record::feed::feed_record;
 use std::{fmt, io};
@@ -12,14 +11,9 @@ struct RecordText<'a>(&'a [u8]);
 
 impl fmt::Display for RecordText<'_> {
     fn fmt<W: fmt::Write>(&self, f: &mut fmt::Formatter<W>) -> fmt::Result {
-        for (at, byte) in self.0.iter().enumerate() {
-            if at % 10 == 0 {
-                f.write_str("\n  ")?;
-            }
-            if *byte != b'\n' {
-                let c = char::from(*byte);
-                write!(f, "{c}")?;
-            }
+        for line in self.0.chunks(10) {
+            let text = LineText(line);
+            write!(f, "\n  {text}")?;
         }
         Ok(())
     }
@@ -35,7 +29,7 @@ pub(crate) fn show_grounds(rt: &impl Print, lines: u32, record: &[u8]) -> io::Re
 pub(crate) fn show_reading(rt: &impl Print, rules: &RuleSet, record: &[u8]) -> io::Result<()> {
     // the judge has its own copy of the rules, and as many slots as the search had
     let rules = *rules;
-    let mut area = [Slot::Empty; 193];
+    let mut area = [None; 193];
     let mut judge = Judge::new(rules.problem(), &mut area);
     let read = feed_record(&mut judge, record);
     let found = judge.finding();
@@ -46,9 +40,6 @@ pub(crate) fn show_reading(rt: &impl Print, rules: &RuleSet, record: &[u8]) -> i
     }
     match found {
         Ok(()) => println!(rt; "The judge accepts them: no profile meets these rules"),
-        Err(refusal) => {
-            let refusal = RefusalWords(refusal);
-            println!(rt; "The judge finds: {refusal}")
-        }
+        Err(refusal) => println!(rt; "The judge finds: {refusal}"),
     }
 }

@@ -2,7 +2,6 @@
 use crate::card::Card;
 use crate::limit::Limit;
 use crate::placing::show_limit;
-use crate::words::RefusalWords;
 use scales::side::Side;
 use scales::whole::Whole;
 use scales::window::Window;
@@ -22,9 +21,6 @@ pub(crate) fn show(rt: &impl Print, card: &Card) -> io::Result<()> {
 fn show_timeouts(rt: &impl Print, from: i32, to: i32) -> io::Result<()> {
     match Window::new(Whole, from, to) {
         Ok(_) => println!(rt; "  timeout from {from} s to {to} s: taken"),
-        Err(refusal) => {
-            let refusal = RefusalWords(refusal);
-            println!(rt; "  timeout from {from} s to {to} s: {refusal}")
-        }
+        Err(refusal) => println!(rt; "  timeout from {from} s to {to} s: {refusal}"),
     }
 }

@@ -1,7 +1,6 @@
-// The makers' rules: two limits each, of which one suffices.
+// The makers' rules, and those of two limits.
 use crate::card::{Card, Quantity};
 use crate::limit::Limit;
-use crate::words::LimitWords;
 use blocks::bound::Bound;
 use scales::refusal::Refusal;
 use scales::side::Side;
@@ -31,92 +30,96 @@ impl Asked {
 impl fmt::Display for Asked {
     fn fmt<W: fmt::Write>(&self, f: &mut fmt::Formatter<W>) -> fmt::Result {
         match *self {
-            Asked::Depth(limit) => {
-                let quantity = Quantity::QueueDepth;
-                let words = LimitWords { quantity, limit };
-                write!(f, "{words}")
-            }
-            Asked::Timeout(limit) => {
-                let quantity = Quantity::Timeout;
-                let words = LimitWords { quantity, limit };
-                write!(f, "{words}")
-            }
-            Asked::Temperature(limit) => {
-                let quantity = Quantity::Temperature;
-                let words = LimitWords { quantity, limit };
-                write!(f, "{words}")
-            }
-            Asked::Grade(limit) => {
-                let quantity = Quantity::Grade;
-                let words = LimitWords { quantity, limit };
-                write!(f, "{words}")
-            }
+            Asked::Depth(limit) => write!(f, "{}", limit.on(Quantity::QueueDepth)),
+            Asked::Timeout(limit) => write!(f, "{}", limit.on(Quantity::Timeout)),
+            Asked::Temperature(limit) => write!(f, "{}", limit.on(Quantity::Temperature)),
+            Asked::Grade(limit) => write!(f, "{}", limit.on(Quantity::Grade)),
         }
     }
 }
 
-// A maker's rule: the one limit or the other.
+// A maker's rule: limits of which one suffices.
 #[derive(Clone, Copy)]
-pub(crate) struct MakersRule {
+pub(crate) struct MakersRule<const N: usize> {
     pub(crate) maker: &'static str,
-    pub(crate) one: Asked,
-    pub(crate) other: Asked,
+    pub(crate) limits: [Asked; N],
 }
 
-impl fmt::Display for MakersRule {
-    fn fmt<W: fmt::Write>(&self, f: &mut fmt::Formatter<W>) -> fmt::Result {
-        let maker = self.maker;
-        let one = self.one;
-        let other = self.other;
-        write!(f, "{maker}, {one} or {other}")
+impl<const N: usize> MakersRule<N> {
+    // The rule as bounds on the card's settings.
+    pub(crate) fn bounds(&self, card: &Card) -> Result<[Bound; N], Refusal> {
+        let mut bounds = [Bound::AtMost(0, 0); N];
+        for (bound, limit) in bounds.iter_mut().zip(&self.limits) {
+            *bound = limit.bound(card)?;
+        }
+        Ok(bounds)
     }
 }
 
-pub(crate) const DEPTH_OR_TIMEOUT: MakersRule = MakersRule {
+impl<const N: usize> fmt::Display for MakersRule<N> {
+    fn fmt<W: fmt::Write>(&self, f: &mut fmt::Formatter<W>) -> fmt::Result {
+        f.write_str(self.maker)?;
+        for (i, limit) in self.limits.iter().enumerate() {
+            f.write_str(if i == 0 { ", " } else { " or " })?;
+            write!(f, "{limit}")?;
+        }
+        Ok(())
+    }
+}
+
+pub(crate) const DEPTH_OR_TIMEOUT: MakersRule<2> = MakersRule {
     maker: "Alder",
-    one: Asked::Depth(Limit {
-        side: Side::AtMost,
-        value: 16,
-    }),
-    other: Asked::Timeout(Limit {
-        side: Side::AtLeast,
-        value: 8,
-    }),
+    limits: [
+        Asked::Depth(Limit {
+            side: Side::AtMost,
+            value: 16,
+        }),
+        Asked::Timeout(Limit {
+            side: Side::AtLeast,
+            value: 8,
+        }),
+    ],
 };
 
-pub(crate) const HEAT_OR_TIMEOUT: MakersRule = MakersRule {
+pub(crate) const HEAT_OR_TIMEOUT: MakersRule<2> = MakersRule {
     maker: "Alder",
-    one: Asked::Temperature(Limit {
-        side: Side::AtMost,
-        value: 70.0,
-    }),
-    other: Asked::Timeout(Limit {
-        side: Side::AtMost,
-        value: 20,
-    }),
+    limits: [
+        Asked::Temperature(Limit {
+            side: Side::AtMost,
+            value: 70.0,
+        }),
+        Asked::Timeout(Limit {
+            side: Side::AtMost,
+            value: 20,
+        }),
+    ],
 };
 
-pub(crate) const DEPTH_OR_GRADE: MakersRule = MakersRule {
+pub(crate) const DEPTH_OR_GRADE: MakersRule<2> = MakersRule {
     maker: "Birch",
-    one: Asked::Depth(Limit {
-        side: Side::AtMost,
-        value: 8,
-    }),
-    other: Asked::Grade(Limit {
-        side: Side::AtLeast,
-        value: b'H',
-    }),
+    limits: [
+        Asked::Depth(Limit {
+            side: Side::AtMost,
+            value: 8,
+        }),
+        Asked::Grade(Limit {
+            side: Side::AtLeast,
+            value: b'H',
+        }),
+    ],
 };
 
 // Every queue depth is one or the other.
-pub(crate) const ANY_DEPTH: MakersRule = MakersRule {
+pub(crate) const ANY_DEPTH: MakersRule<2> = MakersRule {
     maker: "Birch",
-    one: Asked::Depth(Limit {
-        side: Side::AtMost,
-        value: 40,
-    }),
-    other: Asked::Depth(Limit {
-        side: Side::AtLeast,
-        value: 32,
-    }),
+    limits: [
+        Asked::Depth(Limit {
+            side: Side::AtMost,
+            value: 40,
+        }),
+        Asked::Depth(Limit {
+            side: Side::AtLeast,
+            value: 32,
+        }),
+    ],
 };

@@ -1,84 +1,64 @@
 // The search over the makers' rules: the profile that it finds, then one rule more, on which it
 // finds none and writes a record of its grounds that a judge reads.
 use crate::card::{Card, Setting};
-use crate::demands::{Demand, LONG_QUEUE, LOW_GRADE, NOT_TOO_COLD};
+use crate::demands::{LONG_QUEUE, LOW_GRADE, NOT_TOO_COLD};
+use crate::desk::Desk;
 use crate::error::TourError;
 use crate::reading::{show_grounds, show_reading};
-use crate::words::{Amount, Show};
+use crate::rules::MakersRule;
+use crate::words::Show;
 use blocks::block::Block;
-use blocks::rule::Rule;
-use blocks::ruleset::RuleSet;
-use blocks::sink::Sink;
 use blocks::slot::Slot;
 use record::sink::Record;
-use scales::refusal::Refusal;
 use scales::scale::Scale;
-use search::solve::solve;
-use search::verdict::{Answer, Verdict};
+use search::verdict::Verdict;
 
-pub(crate) fn show(rt: &impl Print, card: &Card, rules: &mut RuleSet) -> Result<(), TourError> {
+pub(crate) fn show(rt: &impl Print, desk: &mut Desk) -> Result<(), TourError> {
     println!(rt; "\nTwo rules more, behind the makers' three:")?;
-    post(rt, card, rules, &NOT_TOO_COLD)?;
-    post(rt, card, rules, &LONG_QUEUE)?;
-    let mut area = [Slot::Empty; 193];
+    post(rt, desk, &NOT_TOO_COLD)?;
+    post(rt, desk, &LONG_QUEUE)?;
+    // one area serves both searches: each starts cold, whatever the one before left in it
+    let mut area = [None; 193];
     let mut buffer = [b' '; 100];
-    show_search(rt, card, rules, &mut area, &mut buffer)?;
+    show_search(rt, desk, &mut area, &mut buffer)?;
     println!(rt; "\nOne rule more:")?;
-    post(rt, card, rules, &LOW_GRADE)?;
-    show_search(rt, card, rules, &mut area, &mut buffer)
+    post(rt, desk, &LOW_GRADE)?;
+    show_search(rt, desk, &mut area, &mut buffer)
 }
 
-fn post(
-    rt: &impl Print,
-    card: &Card,
-    rules: &mut RuleSet,
-    demand: &Demand,
-) -> Result<(), TourError> {
-    let bounds = [demand.asked.bound(card)?];
-    let number = rules.count;
-    rules.post(&Rule { bounds: &bounds })?;
+fn post(rt: &impl Print, desk: &mut Desk, demand: &MakersRule<1>) -> Result<(), TourError> {
+    let bounds = demand.bounds(&desk.card)?;
+    let number = desk.post(&bounds)?;
     println!(rt; "  rule {number}: {demand}")?;
     Ok(())
-}
-
-// The search over the rules, with any sink. What is shown needs no more than the verdict, so this
-// hands on nothing of what `solve` promises.
-fn search_rules<K: Sink>(
-    rules: &RuleSet,
-    area: &mut [Slot],
-    sink: &mut K,
-) -> Result<Verdict, Refusal> {
-    solve(&rules.problem(), area, sink)
 }
 
 // Searches, and shows the profile found or the grounds for there being none.
 fn show_search(
     rt: &impl Print,
-    card: &Card,
-    rules: &RuleSet,
+    desk: &Desk,
     area: &mut [Slot],
     buffer: &mut [u8],
 ) -> Result<(), TourError> {
     let mut record = Record::new(buffer);
-    let verdict = search_rules(rules, area, &mut record)?;
-    show_verdict(rt, card, rules, &verdict, record.written())
+    let verdict = desk.search(area, &mut record)?;
+    show_verdict(rt, desk, &verdict, record.written())
 }
 
 fn show_verdict(
     rt: &impl Print,
-    card: &Card,
-    rules: &RuleSet,
+    desk: &Desk,
     verdict: &Verdict,
     written: &[u8],
 ) -> Result<(), TourError> {
-    match &verdict.answer {
-        Answer::Found(region) => {
+    match &verdict.found {
+        Some(region) => {
             println!(rt; "\nThe search finds a profile that meets every rule:")?;
-            show_profile(rt, card, region)
+            show_profile(rt, &desk.card, region)
         }
-        Answer::Nothing => {
+        None => {
             show_grounds(rt, verdict.lines, written)?;
-            show_reading(rt, rules, written)?;
+            show_reading(rt, &desk.rules, written)?;
             Ok(())
         }
     }
@@ -98,9 +78,7 @@ fn show_low<V: Show, S: Scale<Value = V>>(
     region: &Block,
 ) -> Result<(), TourError> {
     let quantity = setting.quantity;
-    let name = quantity.name();
-    let value = setting.scale.value(region.low(setting.number))?;
-    let amount = Amount { quantity, value };
-    println!(rt; "  {name} {amount}")?;
+    let amount = setting.amount_at(region.low(setting.number))?;
+    println!(rt; "  {quantity} {amount}")?;
     Ok(())
 }

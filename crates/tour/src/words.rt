@@ -1,26 +1,18 @@
-// How the tour writes values, limits and refusals.
+// How the tour writes values and limits.
 use crate::card::Quantity;
 use crate::limit::Limit;
-use scales::refusal::Refusal;
-use scales::side::Side;
 use std::fmt;
 
-// A kind of value that can be shown to a person.
-pub(crate) trait Show: Copy {
-    fn show<W: fmt::Write>(self, f: &mut fmt::Formatter<W>) -> fmt::Result;
-}
-
-impl Show for i32 {
+// A kind of value that can be shown to a person, as it is printed if not said otherwise.
+pub(crate) trait Show: Copy + fmt::Display {
     fn show<W: fmt::Write>(self, f: &mut fmt::Formatter<W>) -> fmt::Result {
         write!(f, "{self}")
     }
 }
 
-impl Show for f32 {
-    fn show<W: fmt::Write>(self, f: &mut fmt::Formatter<W>) -> fmt::Result {
-        write!(f, "{self}")
-    }
-}
+impl Show for i32 {}
+
+impl Show for f32 {}
 
 // A grade is shown as its character.
 impl Show for u8 {
@@ -51,34 +43,22 @@ pub(crate) struct LimitWords<V> {
     pub(crate) limit: Limit<V>,
 }
 
-impl<V: Show> fmt::Display for LimitWords<V> {
-    fn fmt<W: fmt::Write>(&self, f: &mut fmt::Formatter<W>) -> fmt::Result {
-        let quantity = self.quantity;
-        let name = quantity.name();
-        let side = match self.limit.side {
-            Side::AtMost => "at most",
-            Side::AtLeast => "at least",
-        };
-        let value = self.limit.value;
-        let amount = Amount { quantity, value };
-        write!(f, "{name} {side} {amount}")
+impl<V> Limit<V> {
+    // the limit in full, on a setting of this quantity
+    pub(crate) fn on(self, quantity: Quantity) -> LimitWords<V> {
+        LimitWords {
+            quantity,
+            limit: self,
+        }
     }
 }
 
-// A refusal in full: its number, its layer, its place and its reason.
-#[derive(Clone, Copy)]
-pub(crate) struct RefusalWords(pub(crate) Refusal);
-
-impl fmt::Display for RefusalWords {
+impl<V: Show> fmt::Display for LimitWords<V> {
     fn fmt<W: fmt::Write>(&self, f: &mut fmt::Formatter<W>) -> fmt::Result {
-        let stop = self.0.stop;
-        let number = stop.number();
-        let layer = stop.layer().name();
-        let place = self.0.place;
-        let reason = stop.reason();
-        write!(
-            f,
-            "refused, number {number}, layer {layer}, place {place}: {reason}"
-        )
+        let quantity = self.quantity;
+        let side = self.limit.side;
+        let value = self.limit.value;
+        let amount = Amount { quantity, value };
+        write!(f, "{quantity} {side} {amount}")
     }
 }

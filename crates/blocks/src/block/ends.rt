@@ -1,23 +1,11 @@
-ghost use Rattle.std.specs.Prelude.{◌≡◌, ℕ, ◌≤◌, length, if◌then◌else◌, nat_eq, slice_index};
+ghost use Rattle.std.specs.Prelude.{◌≡◌};
 ghost use Rattle.blocks.specs.Ranges.{everything, with_low, with_high, with_end, Back};
-ghost use Rattle.blocks.specs.Views.{ranges, last_at, BlockOf, Narrowed};
+ghost use Rattle.blocks.specs.Views.{ranges, interval_at, last_at, BlockOf, Narrowed};
 
 use crate::block::Block;
+use crate::block::interval::Interval;
 use crate::bound::Bound;
 use crate::lasts::Lasts;
-
-// The positions with another one for a setting. Past the twelfth there is only position 0.
-fn written(mut positions: [u32; 12], setting: u8, p: u32) -> [u32; 12]
-    requires { 12 ≤ setting → p ≡ 0 }
-    ensures len { length result ≡ 12 }
-    ensures at { (i : ℕ) → slice_index result i ≡ (if nat_eq i setting then p else slice_index positions i) }
-{
-    let i = setting as usize;
-    if i < 12 {
-        positions[i] = p;
-    }
-    positions
-}
 
 impl Block {
     // The block of every profile.
@@ -25,51 +13,42 @@ impl Block {
         ensures { ranges result ≡ everything (last_at lasts.now) }
     {
         Block {
-            low: [0; 12],
-            high: lasts.last,
+            intervals: lasts.last.map(Interval::up_to),
         }
+    }
+
+    // The positions of a setting; only 0 for one past the twelfth.
+    pub(crate) fn interval(&self, setting: u8) -> Interval
+        ensures { result ≡ interval_at self.now setting }
+    {
+        let interval = self.intervals.get(setting as usize).copied();
+        interval.unwrap_or(Interval::up_to(0))
     }
 
     // The low position of a setting; 0 for one past the twelfth.
     pub fn low(&self, setting: u8) -> u32
         ensures { result ≡ (ranges self.now).low setting }
     {
-        let i = setting as usize;
-        if i < 12 { self.low[i] } else { 0 }
+        self.interval(setting).low
     }
 
     // The high position of a setting; 0 for one past the twelfth.
     pub fn high(&self, setting: u8) -> u32
         ensures { result ≡ (ranges self.now).high setting }
     {
-        let i = setting as usize;
-        if i < 12 { self.high[i] } else { 0 }
+        self.interval(setting).high
     }
 
-    // The block with another low position for a setting, where that is a block.
-    fn with_low(&self, setting: u8, p: u32) -> Option<Block>
-        ensures { BlockOf (with_low setting p (ranges self.now)) result }
+    // The block with other positions for a setting. Past the twelfth there is only position 0.
+    fn with(&self, setting: u8, interval: Interval) -> Option<Block>
+        ensures { BlockOf (with_low setting interval.low (with_high setting interval.high (ranges self.now))) result }
     {
-        if p > self.high(setting) {
-            return None;
+        if setting >= 12 {
+            return (interval.high == 0).then_some(*self);
         }
-        Some(Block {
-            low: written(self.low, setting, p),
-            high: self.high,
-        })
-    }
-
-    // The block with another high position for a setting, where that is a block.
-    fn with_high(&self, setting: u8, p: u32) -> Option<Block>
-        ensures { BlockOf (with_high setting p (ranges self.now)) result }
-    {
-        if p < self.low(setting) || setting >= 12 && p > 0 {
-            return None;
-        }
-        Some(Block {
-            low: self.low,
-            high: written(self.high, setting, p),
-        })
+        let mut intervals = self.intervals;
+        intervals[setting as usize] = interval;
+        Some(Block { intervals })
     }
 
     // The profiles of this region that meet a bound; None where no profile does.
@@ -77,19 +56,23 @@ impl Block {
         ensures { Narrowed bound (ranges self.now) result }
     {
         match bound {
-            Bound::AtMost(setting, p) => self.with_high(setting, self.high(setting).min(p)),
-            Bound::AtLeast(setting, p) => self.with_low(setting, self.low(setting).max(p)),
+            Bound::AtMost(setting, p) => self.with(setting, self.interval(setting).at_most(p)?),
+            Bound::AtLeast(setting, p) => self.with(setting, self.interval(setting).at_least(p)?),
         }
     }
 
     // The region with the end that a bound has narrowed put back where it was.
+    #[tactic(auto, using(crate::proofs::Viewing::back))]
     pub fn undo(&self, bound: Bound, end: u32) -> Option<Block>
         ensures answer { BlockOf (with_end bound end (ranges self.now)) result }
         ensures back { Back bound end (ranges self.now) }
     {
         match bound {
-            Bound::AtMost(setting, _) => self.with_high(setting, end),
-            Bound::AtLeast(setting, _) => self.with_low(setting, end),
+            Bound::AtMost(setting, _) => self.with(setting, Interval::new(self.low(setting), end)?),
+            Bound::AtLeast(setting, _) => self.with(
+                setting,
+                Interval::new(end, self.high(setting))?,
+            ),
         }
     }
 }

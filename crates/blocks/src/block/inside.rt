@@ -10,11 +10,9 @@ impl Block {
         ensures answer { MatchBool result (Inside (ranges self.now) (ranges other.now)) (Inside (ranges self.now) (ranges other.now) → ⊥) }
         ensures profiles { Inside (ranges self.now) (ranges other.now) ↔ AllIn (ranges self.now) (ranges other.now) }
     {
-        for i in 0..12 {
-            if self.low[i] < other.low[i] || other.high[i] < self.high[i] {
-                return false;
-            }
-        }
-        true
+        self.intervals
+            .iter()
+            .zip(&other.intervals)
+            .all(|(own, others)| own.is_inside(others))
     }
 }

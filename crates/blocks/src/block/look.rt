@@ -3,12 +3,8 @@ ghost use Rattle.blocks.specs.Status.{more, see, Tells, TellsFirst, TellsOpenAt}
 ghost use Rattle.blocks.specs.Views.{ranges};
 
 use crate::block::Block;
+use crate::bound::{AT_LEAST, AT_MOST};
 use crate::status::Status;
-
-// The sides of a bound, as the numbers by which it is told.
-const AT_MOST: u8 = 0;
-
-const AT_LEAST: u8 = 1;
 
 impl Status {
     // One open bound more.
@@ -18,8 +14,7 @@ impl Status {
         match self {
             Status::Dead => Status::Dead,
             Status::Broken => Status::Forcing(bound),
-            Status::Forcing(_) => Status::Open,
-            Status::Open => Status::Open,
+            Status::Forcing(_) | Status::Open => Status::Open,
         }
     }
 }
@@ -29,19 +24,17 @@ impl Block {
     pub fn see(&self, region: &Block, setting: u8, seen: Status) -> Status
         ensures { result ≡ see (ranges region.now) (ranges self.now) setting seen }
     {
-        let low = self.low(setting);
-        let high = self.high(setting);
-        let from = region.low(setting);
-        let to = region.high(setting);
-        if to < low || high < from {
+        let own = self.interval(setting);
+        let there = region.interval(setting);
+        if there.high < own.low || own.high < there.low {
             return Status::Dead;
         }
         let mut seen = seen;
-        if from < low {
-            seen = seen.and((setting, AT_MOST, low - 1));
+        if there.low < own.low {
+            seen = seen.and((setting, AT_MOST, own.low - 1));
         }
-        if high < to {
-            seen = seen.and((setting, AT_LEAST, high + 1));
+        if own.high < there.high {
+            seen = seen.and((setting, AT_LEAST, own.high + 1));
         }
         seen
     }
@@ -50,26 +43,22 @@ impl Block {
     pub fn status(&self, region: &Block) -> Status
         ensures { Tells (ranges region.now) (ranges self.now) result }
     {
-        let mut seen = Status::Broken;
-        for i in 0..12 {
-            seen = self.see(region, i, seen);
-        }
-        seen
+        (0..12).fold(Status::Broken, |seen, setting| {
+            self.see(region, setting, seen)
+        })
     }
 
     // The first open bound at a setting, at most before at least.
     fn open_at(&self, region: &Block, setting: u8) -> Option<(u8, u8, u32)>
         ensures { TellsOpenAt (ranges region.now) (ranges self.now) setting result }
     {
-        let low = self.low(setting);
-        let high = self.high(setting);
-        let from = region.low(setting);
-        let to = region.high(setting);
-        if from < low && low <= to {
-            return Some((setting, AT_MOST, low - 1));
+        let own = self.interval(setting);
+        let there = region.interval(setting);
+        if there.low < own.low && own.low <= there.high {
+            return Some((setting, AT_MOST, own.low - 1));
         }
-        if from <= high && high < to {
-            return Some((setting, AT_LEAST, high + 1));
+        if there.low <= own.high && own.high < there.high {
+            return Some((setting, AT_LEAST, own.high + 1));
         }
         None
     }
@@ -78,11 +67,6 @@ impl Block {
     pub fn first_open(&self, region: &Block) -> Option<(u8, u8, u32)>
         ensures { TellsFirst (ranges region.now) (ranges self.now) result }
     {
-        for i in 0..12 {
-            if let Some(bound) = self.open_at(region, i) {
-                return Some(bound);
-            }
-        }
-        None
+        (0..12).find_map(|setting| self.open_at(region, setting))
     }
 }

@@ -40,7 +40,6 @@ impl Lasts {
     pub fn last(&self, setting: u8) -> u32
         ensures { result ≡ last_at self.now setting }
     {
-        let i = setting as usize;
-        if i < 12 { self.last[i] } else { 0 }
+        self.last.get(setting as usize).copied().unwrap_or(0)
     }
 }

@@ -2,17 +2,15 @@ ghost use Rattle.std.specs.Prelude.{◌≤◌};
 
 pub mod limits;
 
-// The number of a block in a line: rule i is block i, slot j is block 100 + j. At most 99,999, so
-// that it fits five columns.
+// A number in a line, of at most MAX.
 #[derive(Clone, Copy, PartialEq, Eq, Debug)]
-pub struct BlockNumber {
+pub struct Number<const MAX: u32> {
     number: u32,
-    ghost small: { number ≤ 99999 },
+    ghost small: { number ≤ MAX },
 }
 
-// The number of a setting in a line. At most 999, so that it fits three columns.
-#[derive(Clone, Copy, PartialEq, Eq, Debug)]
-pub struct SettingNumber {
-    number: u16,
-    ghost small: { number ≤ 999 },
-}
+// The number of a block: rule i is block i, slot j is block 100 + j. It fits five columns.
+pub type BlockNumber = Number<99_999>;
+
+// The number of a setting. It fits three columns.
+pub type SettingNumber = Number<999>;

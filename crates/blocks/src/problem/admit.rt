@@ -62,9 +62,7 @@ impl Problem<'_> {
             return Err(Refusal::of(Stop::BoundCount));
         }
         check_bounds(self.lasts, rule.bounds)?;
-        let Some(block) = breaking(self.lasts, rule.bounds) else {
-            return Err(Refusal::of(Stop::AlwaysMet));
-        };
+        let block = breaking(self.lasts, rule.bounds).ok_or(Refusal::of(Stop::AlwaysMet))?;
         if self.rules.len() >= 48 {
             return Err(Refusal::of(Stop::RulesFull));
         }

@@ -10,13 +10,8 @@ impl<'a> Problem<'a> {
     pub fn pose(lasts: &'a Lasts, rules: &'a [Standing]) -> Option<Problem<'a>>
         ensures { Poses lasts.now rules.now result }
     {
-        if rules.len() > 48 {
+        if rules.len() > 48 || !rules.iter().all(|rule| lasts.holds(&rule.block)) {
             return None;
-        }
-        for rule in rules {
-            if !lasts.holds(&rule.block) {
-                return None;
-            }
         }
         Some(Problem { lasts, rules })
     }

@@ -1,4 +1,4 @@
-ghost use Rattle.std.specs.Prelude.{◌≡◌, []};
+ghost use Rattle.std.specs.Prelude.{◌≡◌, [], length};
 ghost use Rattle.blocks.specs.RuleSets.{sheet_in, PosesSet, Posted};
 ghost use Rattle.blocks.specs.Problems.{sheet_of};
 
@@ -8,6 +8,7 @@ use crate::problem::Problem;
 use crate::rule::Rule;
 use crate::ruleset::RuleSet;
 use crate::standing::Standing;
+use rows::row::Row;
 use scales::refusal::Refusal;
 
 impl RuleSet {
@@ -15,24 +16,27 @@ impl RuleSet {
     pub fn new(lasts: Lasts) -> RuleSet
         ensures { sheet_in result ≡ sheet_of lasts [] }
     {
-        let nothing = Standing {
+        let blank = Standing {
             block: Block::everything(&lasts),
         };
         RuleSet {
             lasts,
-            rules: [nothing; 48],
-            count: 0,
+            rules: Row::new(blank),
         }
+    }
+
+    // How many rules stand.
+    pub fn count(&self) -> usize
+        ensures { result ≡ length (sheet_in self.now).rules }
+    {
+        self.rules.len()
     }
 
     // The problem of what stands.
     pub fn problem(&self) -> Problem<'_>
         ensures { PosesSet self.now result }
     {
-        match Problem::pose(&self.lasts, &self.rules[0..self.count]) {
-            Some(problem) => problem,
-            None => unreachable(),
-        }
+        Problem::pose(&self.lasts, self.rules.as_slice()).unwrap()
     }
 
     // One rule more, behind the others, where it is admitted.
@@ -40,9 +44,7 @@ impl RuleSet {
         ensures { Posted self.old rule.now.bounds.now result self.new }
     {
         let standing = self.problem().admit(rule)?;
-        let at = self.count;
-        self.rules[at] = standing;
-        self.count = at + 1;
+        self.rules.push(standing).unwrap();
         Ok(())
     }
 }

@@ -1,4 +1,4 @@
-ghost use Rattle.std.specs.Prelude.{◌≡◌, ℕ, ◌+◌, ◌<◌, [], ◌∷◌, length, Some, MatchBool};
+ghost use Rattle.std.specs.Prelude.{◌≡◌, ◌+◌, ◌<◌, [], ◌∷◌, length, Some, MatchBool};
 ghost use Rattle.scales.specs.declared.refusal.Stop.TheVariants.{UnknownBlock, Undeclared, NotResolvable};
 ghost use Rattle.scales.specs.Checks.{Outcome};
 ghost use Rattle.blocks.specs.declared.line.Line.TheVariants.{Take, Resolve, Keep, End};
@@ -17,34 +17,30 @@ impl Judge<'_> {
     pub(super) fn named(&self, number: BlockNumber) -> Result<Block, Refusal>
         ensures { Outcome (asks (court_of self.now) UnknownBlock (Known (court_of self.now) (Take number)) ∷ []) (λ b. block_in (court_of self.now) number.number ≡ Some (ranges b)) result }
     {
-        match self.block(number) {
-            Some(block) => Ok(block),
-            None => Err(self.refusal(Stop::UnknownBlock)),
-        }
+        self.block(number).ok_or(self.refusal(Stop::UnknownBlock))
     }
 
     // The setting that a line names.
     fn setting(&self, number: SettingNumber) -> Result<u8, Refusal>
         ensures { Outcome (asks (court_of self.now) Undeclared (number.number < (court_of self.now).sheet.count) ∷ []) (λ s. s ≡ number.number) result }
     {
-        let n = number.number();
-        if n >= u16::from(self.problem.lasts().count()) {
-            return Err(self.refusal(Stop::Undeclared));
-        }
-        Ok(n as u8)
+        let count = self.problem.lasts().count();
+        u8::try_from(number.number())
+            .ok()
+            .filter(|setting| *setting < count)
+            .ok_or(self.refusal(Stop::Undeclared))
     }
 
     // A block resolved into the work block, where that is allowed.
     fn resolved(&self, work: &Block, block: &Block, setting: u8) -> Result<Block, Refusal>
         ensures { Outcome (asks (court_of self.now) NotResolvable (Resolvable setting (ranges work.now) (ranges block.now)) ∷ []) (λ b. ranges b ≡ resolve setting (ranges work.now) (ranges block.now)) result }
     {
-        match work.resolve(block, setting) {
-            Ok(block) => Ok(block),
-            Err(_) => Err(self.refusal(Stop::NotResolvable)),
-        }
+        let refusal = self.refusal(Stop::NotResolvable);
+        work.resolve(block, setting).map_err(|_| refusal)
     }
 
-    // What line r makes of the work block.
+    // What line r makes of the work block. Here and below the work block is the state's own. A struct
+    // that says so would owe it each time it is made.
     pub(super) fn joined(
         &self,
         work: &Block,
@@ -63,10 +59,10 @@ impl Judge<'_> {
         ensures { Outcome (further_checks (court_of self.now) (Keep number)) (λ j. (number.number ≡ 100 + j) × (j < length self.now.area.now)) result }
     {
         let n = number.number() as usize;
-        if n < 100 || n - 100 >= self.area.len() {
-            return Err(self.refusal(Stop::UnknownBlock));
-        }
-        Ok(n - 100)
+        let slots = self.area.len();
+        n.checked_sub(100)
+            .filter(|slot| *slot < slots)
+            .ok_or(self.refusal(Stop::UnknownBlock))
     }
 
     // Whether the work block is everything.

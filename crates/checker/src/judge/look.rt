@@ -1,33 +1,21 @@
-ghost use Rattle.std.specs.Prelude.{◌≡◌, ℕ, ◌+◌, ◌<◌, ◌≤◌, [], ◌∷◌, length, Some};
+ghost use Rattle.std.specs.Prelude.{◌≡◌, [], ◌∷◌};
 ghost use Rattle.std.specs.List.{slice_get};
 ghost use Rattle.std.specs.Option.{option_map};
-ghost use Rattle.scales.specs.declared.refusal.Stop.TheVariants.{NotAllowed, UnknownBlock, Undeclared, NotEverything};
+ghost use Rattle.scales.specs.declared.refusal.Stop.TheVariants.{NotAllowed};
 ghost use Rattle.scales.specs.Stops.{line_place};
 ghost use Rattle.scales.specs.Checks.{Outcome};
-ghost use Rattle.blocks.specs.Ranges.{Inside, everything};
 ghost use Rattle.blocks.specs.Problems.{posed};
-ghost use Rattle.blocks.specs.Slots.{slot_at, slot_holds};
+ghost use Rattle.blocks.specs.Slots.{slot_at};
 ghost use Rattle.blocks.specs.Views.{ranges};
 ghost use Rattle.checker.specs.Courts.{court_of, block_in, asks};
 ghost use Rattle.checker.specs.Hearing.{Allowed};
 
 use crate::judge::Judge;
-use crate::table::{Letter, allowed};
+use crate::table::allowed;
 use blocks::block::Block;
 use blocks::line::Line;
-use blocks::line::numbers::{BlockNumber, SettingNumber};
-use blocks::slot::Slot;
+use blocks::line::numbers::BlockNumber;
 use scales::refusal::{Refusal, Stop};
-
-// What a slot holds.
-fn held(slot: Slot) -> Option<Block>
-    ensures { option_map ranges result ≡ slot_holds slot }
-{
-    match slot {
-        Slot::Empty => None,
-        Slot::Filled(block) => Some(block),
-    }
-}
 
 impl Judge<'_> {
     // A refusal of the next line.
@@ -41,7 +29,7 @@ impl Judge<'_> {
     pub(super) fn allow(&self, line: Line) -> Result<(), Refusal>
         ensures { Outcome (asks (court_of self.now) NotAllowed (Allowed (court_of self.now) line) ∷ []) (λ _. Unit {0}) result }
     {
-        if !allowed(self.state.stage(), Letter::of(line)) {
+        if !allowed(self.state.into(), line.into()) {
             return Err(self.refusal(Stop::NotAllowed));
         }
         Ok(())
@@ -51,21 +39,17 @@ impl Judge<'_> {
     fn ruled(&self, rule: usize) -> Option<Block>
         ensures { option_map ranges result ≡ slice_get (posed self.now.problem).rules rule }
     {
-        let rules = self.problem.rules();
-        if rule >= rules.len() {
-            return None;
-        }
-        Some(rules[rule].block)
+        self.problem
+            .rules()
+            .get(rule)
+            .map(|standing| standing.block)
     }
 
     // The block in a slot, where the area has this slot and the slot is filled.
     fn kept(&self, slot: usize) -> Option<Block>
         ensures { option_map ranges result ≡ slot_at self.now.area.now slot }
     {
-        if slot >= self.area.len() {
-            return None;
-        }
-        held(self.area[slot])
+        self.area.get(slot).copied().flatten()
     }
 
     // The block of a number: rule i is block i, slot j is block 100 + j.
@@ -73,10 +57,9 @@ impl Judge<'_> {
         ensures { option_map ranges result ≡ block_in (court_of self.now) number.number }
     {
         let n = number.number() as usize;
-        if n < 100 {
-            self.ruled(n)
-        } else {
-            self.kept(n - 100)
+        match n.checked_sub(100) {
+            None => self.ruled(n),
+            Some(slot) => self.kept(slot),
         }
     }
 }

@@ -1,6 +1,5 @@
-ghost use Rattle.std.specs.Prelude.{◌≡◌, List, length, replicate};
+ghost use Rattle.std.specs.Prelude.{◌≡◌, List, length, replicate, None};
 ghost use Rattle.blocks.specs.declared.line.Line.{Line};
-ghost use Rattle.blocks.specs.declared.slot.Slot.TheVariants.{Empty};
 ghost use Rattle.blocks.specs.Problems.{posed};
 ghost use Rattle.blocks.specs.Sheets.{Proper};
 ghost use Rattle.checker.specs.Courts.{court_of, opened};
@@ -13,9 +12,9 @@ use blocks::slot::Slot;
 
 // Marks every slot empty.
 fn clear(area: &mut [Slot])
-    ensures { area.new ≡ replicate (length area.old) Empty }
+    ensures { area.new ≡ replicate (length area.old) None }
 {
-    area.fill(Slot::Empty);
+    area.fill(None);
 }
 
 impl<'a> Judge<'a> {

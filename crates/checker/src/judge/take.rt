@@ -27,9 +27,7 @@ impl Sink for Judge<'_> {
         ensures kept { self.new.area.ghost_name ≡ self.old.area.ghost_name }
         ensures law { JustTakes (court_of self.old) line result (court_of self.new) }
     {
-        match self.hear(line) {
-            Ok(()) => Ok(()),
-            Err(refusal) => Err(u32::from(refusal.stop.number())),
-        }
+        self.hear(line)
+            .map_err(|refusal| u32::from(refusal.stop.number()))
     }
 }

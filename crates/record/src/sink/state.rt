@@ -1,4 +1,4 @@
-ghost use Rattle.std.specs.Prelude.{◌≡◌, min, length, take};
+ghost use Rattle.std.specs.Prelude.{◌≡◌, take};
 ghost use Rattle.record.specs.Pages.{page_of, has_room, full as full_at};
 
 use crate::sink::Record;
@@ -13,34 +13,25 @@ impl Record<'_> {
         self.end
     }
 
-    // How much of the buffer is written, and never more than it has.
-    fn front(&self) -> usize
-        ensures { result ≡ min (page_of self.now).written (length (page_of self.now).bytes) }
-    {
-        self.len().min(self.buffer.len())
-    }
-
     // The bytes that are written.
     pub fn written(&self) -> &[u8]
         ensures { result.now ≡ take (page_of self.now).written (page_of self.now).bytes }
     {
-        &self.buffer[0..self.front()]
+        &self.buffer[..self.end]
     }
 
     // Whether ten bytes are free.
     pub(crate) fn has_room(&self) -> bool
         ensures { result ≡ has_room (page_of self.now) }
     {
-        self.buffer.len() >= 10 && self.len() <= self.buffer.len() - 10
+        self.buffer.len() - self.end >= 10
     }
 
     // The refusal of the line to come, at its number; none while ten bytes are free.
     pub fn full(&self) -> Option<Refusal>
         ensures { result ≡ full_at (page_of self.now) }
     {
-        if self.has_room() {
-            return None;
-        }
-        Some(Refusal::at_line(Stop::RecordFull, self.len() as u64 / 10 + 1))
+        let next = self.len() as u64 / 10 + 1;
+        (!self.has_room()).then_some(Refusal::at_line(Stop::RecordFull, next))
     }
 }

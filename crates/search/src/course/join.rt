@@ -1,7 +1,7 @@
 ghost use Rattle.std.specs.Prelude.{◌≡◌, ℕ, ◌<◌};
-ghost use Rattle.blocks.specs.Bounds.{Profile, Meets, told};
+ghost use Rattle.arrayvec.specs.ArrayVec.{array_vec_len};
+ghost use Rattle.blocks.specs.Bounds.{Profile, Meets};
 ghost use Rattle.blocks.specs.Ranges.{In, end};
-ghost use Rattle.blocks.specs.declared.bound.Bound.{Bound};
 ghost use Rattle.blocks.specs.Views.{ranges};
 ghost use Rattle.search.specs.Courses.{Joined};
 
@@ -9,18 +9,6 @@ use crate::course::Course;
 use crate::trail::{Reason, TrailEntry};
 use blocks::block::Block;
 use blocks::bound::Bound;
-
-// The bound that three numbers tell: setting, side and position.
-pub(crate) fn bound_told(bound: (u8, u8, u32)) -> Bound
-    ensures { (β : Bound) → bound ≡ told β → result ≡ β }
-{
-    let (setting, side, position) = bound;
-    if side == 0 {
-        Bound::AtMost(setting, position)
-    } else {
-        Bound::AtLeast(setting, position)
-    }
-}
 
 // The end of a region that a bound narrows.
 fn end_of(region: &Block, bound: Bound) -> u32
@@ -35,14 +23,11 @@ fn end_of(region: &Block, bound: Bound) -> u32
 impl Course {
     // A bound that some profile of the region meets joins the trail and narrows the region.
     pub(crate) fn join(&mut self, bound: Bound, reason: Reason)
-        requires { (self.old.trail.len < 192) × ((x : Profile) × In (ranges self.old.region) x × Meets x bound) }
+        requires { (array_vec_len self.old.trail.entries < 192) × ((x : Profile) × In (ranges self.old.region) x × Meets x bound) }
         ensures { Joined self.old bound reason self.new }
     {
         let end = end_of(&self.region, bound);
-        match self.region.narrow(bound) {
-            Some(region) => self.region = region,
-            None => unreachable(),
-        }
-        self.trail.push(TrailEntry { bound, end, reason });
+        self.region = self.region.narrow(bound).unwrap();
+        self.trail.entries.push(TrailEntry { bound, end, reason });
     }
 }

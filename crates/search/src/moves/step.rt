@@ -1,49 +1,29 @@
-ghost use Rattle.std.specs.Prelude.{◌≡◌};
-ghost use Rattle.blocks.specs.Problems.{posed};
-ghost use Rattle.search.specs.Tallies.{feed};
-ghost use Rattle.search.specs.Moves.{Going, Moved};
+ghost use Rattle.search.specs.Moves.{GoingIn, MovedOn, SameWithin};
 
-use crate::course::Course;
-use crate::course::join::bound_told;
-use crate::moves::Ended;
-use crate::moves::decide::decide;
-use crate::moves::learn::conflict;
-use crate::numbered::Numbered;
+use crate::moves::{Ended, Search};
 use crate::scan::Scan;
-use crate::tally::Tally;
-use crate::trail::Reason;
-use blocks::problem::Problem;
+use blocks::bound::Bound;
 use blocks::sink::Sink;
-use blocks::slot::Slot;
 
-// One step of the search, or its end.
-pub(crate) fn step_on<K: Sink>(
-    problem: &Problem<'_>,
-    course: &mut Course,
-    area: &mut [Slot],
-    tally: &mut Tally,
-    sink: &mut K,
-) -> Option<Ended>
-    requires { Going (posed problem.now) course.old area.old }
-    ensures moved { Moved K.step (posed problem.now) course.old area.old (feed tally.old (K.model sink.old)) result course.new area.new (feed tally.new (K.model sink.new)) }
-    ensures kept { K.lent sink.new ≡ K.lent sink.old }
-{
-    let blocks = Numbered {
-        rules: problem.rules(),
-        filled: &area[0..course.filled],
-    };
-    match blocks.scan(&course.region) {
-        Scan::Broken(number) => conflict(problem, number, course, area, tally, sink),
-        Scan::Forcing(number, bound) => {
-            course.join(bound_told(bound), Reason::Forced(number));
-            None
-        }
-        Scan::Quiet(alive) => {
-            let Some(number) = alive else {
-                return Some(Ended::Found);
-            };
-            decide(&blocks, number, course);
-            None
+impl<K: Sink> Search<'_, '_, '_, K> {
+    // One step of the search, or its end.
+    pub(crate) fn step(&mut self) -> Option<Ended>
+        requires { GoingIn self.old }
+        ensures moved { MovedOn K.step K.model self.old result self.new }
+        ensures kept { SameWithin K.lent self.old self.new }
+    {
+        match self.blocks().scan(&self.course.region) {
+            Scan::Broken(number) => self.conflict(number),
+            Scan::Forcing(number, bound) => {
+                self.course.join(Bound::from(bound), Some(number));
+                None
+            }
+            Scan::Quiet(Some(number)) => {
+                let block = self.blocks().at(number).unwrap();
+                self.course.decide(&block);
+                None
+            }
+            Scan::Quiet(None) => Some(Ended::Found(self.course.region)),
         }
     }
 }

@@ -4,6 +4,7 @@ ghost use Rattle.sheet.specs.Settings.{Declares, lasts_of, names_of};
 use crate::draft::Draft;
 use crate::name::Name;
 use blocks::lasts::Lasts;
+use rows::row::Row;
 use scales::refusal::Refusal;
 use scales::scale::Scale;
 
@@ -14,7 +15,7 @@ impl Draft {
     {
         Draft {
             lasts: Lasts::new(),
-            names: [Name { bytes: [0; 8] }; 12],
+            names: Row::new(Name { bytes: [0; 8] }),
         }
     }
 
@@ -23,7 +24,7 @@ impl Draft {
         ensures { Declares (S.Scale.top scale.now) name self.old result self.new }
     {
         let setting = self.lasts.declare(scale)?;
-        self.names[setting as usize] = name;
+        self.names.push(name).unwrap();
         Ok(setting)
     }
 }

@@ -22,10 +22,7 @@ fn refusal_of(halt: Halt) -> Refusal
 {
     let stop = match halt.cause {
         Cause::Shape => Stop::BadShape,
-        Cause::Sink(number) => match Stop::numbered(number) {
-            Some(stop) => stop,
-            None => unreachable(),
-        },
+        Cause::Sink(number) => Stop::try_from(number).unwrap(),
     };
     Refusal::at_line(stop, u64::from(halt.line))
 }

@@ -20,39 +20,28 @@ impl<R> Sheet<R> {
     pub fn last(&self, setting: u8) -> Option<u32>
         ensures { result ≡ slice_get (lasts_on self.now) setting }
     {
-        if setting < self.rules.lasts.count() {
-            Some(self.rules.lasts.last(setting))
-        } else {
-            None
-        }
+        (setting < self.rules.lasts.count()).then_some(self.rules.lasts.last(setting))
     }
 
     // The name of a setting; none for one that is not declared.
     pub fn name(&self, setting: u8) -> Option<Name>
         ensures { result ≡ slice_get (names_on self.now) setting }
     {
-        if setting < self.rules.lasts.count() {
-            Some(self.names[setting as usize])
-        } else {
-            None
-        }
+        self.names.as_slice().get(setting as usize).copied()
     }
 
     // How many rules stand on it.
     pub fn rules(&self) -> usize
         ensures { result ≡ length (sheet_on self.now).rules }
     {
-        self.rules.count
+        self.rules.count()
     }
 
     // The block of a standing rule, which holds the profiles that break it; none where fewer stand.
     pub fn block(&self, rule: usize) -> Option<Block>
         ensures { MatchOption result (length (sheet_on self.now).rules ≤ rule) (λ b. slice_get (sheet_on self.now).rules rule ≡ Some (ranges b)) }
     {
-        if rule < self.rules.count {
-            Some(self.rules.rules[rule].block)
-        } else {
-            None
-        }
+        let standing = self.rules.rules.as_slice().get(rule)?;
+        Some(standing.block)
     }
 }

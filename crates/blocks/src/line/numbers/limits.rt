@@ -1,58 +1,41 @@
 ghost use Rattle.std.specs.Prelude.{◌≡◌, ◌<◌, MatchOption};
-ghost use Rattle.blocks.specs.Lines.{block_number, setting_number};
+ghost use Rattle.blocks.specs.Lines.{stopping_at, setting_number};
 
-use crate::line::numbers::{BlockNumber, SettingNumber};
+use crate::line::numbers::{Number, SettingNumber};
 
-impl BlockNumber {
-    // A number that fits five columns.
-    pub fn new(number: u32) -> Option<BlockNumber>
-        ensures { MatchOption result (99999 < number) (λ b. b.number ≡ number) }
+impl<const MAX: u32> Number<MAX> {
+    // A number that is not over the limit.
+    pub fn new(number: u32) -> Option<Number<MAX>>
+        ensures { MatchOption result (MAX < number) (λ n. n.number ≡ number) }
     {
-        if number > 99_999 {
+        if number > MAX {
             return None;
         }
-        Some(BlockNumber { number })
+        Some(Number { number })
     }
 
-    // A number, stopping at 99,999.
-    pub fn stopping(number: usize) -> BlockNumber
-        ensures { result ≡ block_number number }
+    // A number, stopping at the limit.
+    pub fn stopping(number: usize) -> Number<MAX>
+        ensures { result ≡ stopping_at MAX number }
     {
-        BlockNumber {
-            number: number.min(99_999) as u32,
+        Number {
+            number: number.min(MAX as usize) as u32,
         }
     }
 
+    // The number itself. The theorems on lines name the field, so there is no model.
     pub fn number(self) -> u32
-        ensures { result ≡ self.number }
+        ensures { result ≡ self.entry.number }
     {
         self.number
     }
 }
 
-impl SettingNumber {
-    // A number that fits three columns.
-    pub fn new(number: u16) -> Option<SettingNumber>
-        ensures { MatchOption result (999 < number) (λ s. s.number ≡ number) }
-    {
-        if number > 999 {
-            return None;
-        }
-        Some(SettingNumber { number })
-    }
+// The number of a sheet's setting. It always fits.
+impl From<u8> for SettingNumber {
+    ghost from_gives = { λ setting number. number ≡ setting_number setting };
 
-    // A setting of a sheet.
-    pub fn of(setting: u8) -> SettingNumber
-        ensures { result ≡ setting_number setting }
-    {
-        SettingNumber {
-            number: u16::from(setting),
-        }
-    }
-
-    pub fn number(self) -> u16
-        ensures { result ≡ self.number }
-    {
-        self.number
+    fn from(setting: u8) -> SettingNumber {
+        Number::stopping(setting as usize)
     }
 }

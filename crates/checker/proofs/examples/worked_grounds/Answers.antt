@@ -2,7 +2,7 @@ use Rattle.std.proofs.Common.{ℕ, zero, suc, ◌≤◌, ◌⊎◌, [], ◌∷�
 use Rattle.std.proofs.lemmas.Bool.{false≢true}
 use Rattle.blocks.specs.Bounds.{Profile}
 use Rattle.blocks.specs.Ranges.{everything, In}
-use Rattle.checker.specs.Examples.{two_settings}
+use Rattle.blocks.specs.Meeting.{two_settings}
 use Rattle.checker.proofs.examples.worked_grounds.Goals as goal
 
 -- x and y at these positions

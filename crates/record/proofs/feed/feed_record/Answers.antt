@@ -1,41 +1,35 @@
-use Rattle.std.proofs.Common.{arith}
+use Rattle.std.proofs.Common.{rules, ◌∙◌}
+use Rattle.std.specs.Iterator.Adapters.{enumerate_source, enumerate_count}
+use Rattle.std.specs.Slice.Iter.{chunks_rest}
 use Rattle.std.proofs.lemmas.Result.{err_from_is_err_and}
-use Rattle.record.proofs.Feeding.{one_more, all_read, stopped, shorter, so_far_length}
+use Rattle.record.proofs.Feeding.{one_more, all_read, stopped}
 use Rattle.record.proofs.feed.feed_record.Goals as goal
 
-pub overflow_add-nth : goal.overflow_add-nth
-overflow_add-nth g c = omega (arith, so_far_length _ _ _ _ _ _ c.loop-rest.invariant.0)
-
-pub returns-in_err-feed_line : goal.returns-in_err-feed_line
-returns-in_err-feed_line g c =
+pub returns-in_err-feed_line-clause-read : goal.returns-in_err-feed_line-clause-read
+returns-in_err-feed_line-clause-read g c =
     let k = g.K.Sink in
-    let ten = c.first_ten in
-    let fed = c.in_err-feed_line.ensures in
+    let steps = c.in-Some.ensures.steps in
+    let cut = steps.0 in
+    let so = c.loop-before.invariant.3 in
     let p = err_from_is_err_and c.from_residual.result c.from_residual.ensures.1 in
-    rw (p.1, p.2) (record {
-      read = stopped k.step (k.model c.args.sink.now) c.args.bytes.now c.loop-rest.rest.now ten.result.0.now ten.result.1.now c.loop-rest.taken
-          (k.model c.loop-rest.sink) (k.model c.feed_line.new.sink) c.in_err-feed_line.field-0.0
-          c.loop-rest.invariant.0 c.loop-rest-test.true ten.ensures.cut ten.ensures.ten fed.fed;
-      kept = cc fed.kept;
-    })
+    rw (p.1, p.2) (stopped k.step (k.model c.args.sink.now) c.args.bytes.now (chunks_rest (enumerate_source c.loop-before.before-iterator)) c.in-Some.line.now _ c.in-Some.before
+    (k.model c.loop-before.sink) (k.model c.feed_line.new.sink) c.in_err-feed_line.field-0.0
+    (rw steps.1 so) cut.1.2 cut.1.0 (rw c.loop-before.invariant.2 at cut.1.1) c.in_err-feed_line.ensures.fed)
 
-pub loop-rest-smaller : goal.loop-rest-smaller
-loop-rest-smaller g c = let ten = c.first_ten in shorter c.loop-rest.rest.now ten.result.0.now ten.result.1.now c.loop-rest-test.true ten.ensures.cut ten.ensures.ten
-
-pub loop-rest-preserved : goal.loop-rest-preserved
-loop-rest-preserved g c =
+pub loop-before-preserved : goal.loop-before-preserved
+loop-before-preserved g c =
     let k = g.K.Sink in
-    let ten = c.first_ten in
+    let steps = c.in-Some.ensures.steps in
+    let cut = steps.0 in
     let fed = c.in_ok-feed_line.ensures in (
-      one_more k.step (k.model c.args.sink.now) c.args.bytes.now c.loop-rest.rest.now ten.result.0.now ten.result.1.now c.loop-rest.taken
-          (k.model c.loop-rest.sink) (k.model c.feed_line.new.sink) fed.fed.0
-          c.loop-rest.invariant.0 ten.ensures.cut fed.fed.1 fed.fed.2,
+      search rules,
+      tt,
+      cut.0 ∙ c.loop-before.invariant.2,
+      rw steps.2 (one_more k.step (k.model c.args.sink.now) c.args.bytes.now (chunks_rest (enumerate_source c.loop-before.before-iterator)) c.in-Some.line.now _ (enumerate_count c.loop-before.before-iterator)
+          (k.model c.loop-before.sink) (k.model c.feed_line.new.sink) fed.fed.0
+          c.loop-before.invariant.3 cut.1.0 fed.fed.1 fed.fed.2),
       cc fed.kept,
     )
 
-pub returns : goal.returns
-returns g c =
-    record {
-      read = all_read _ _ _ c.loop-rest.rest.now _ _ c.loop-rest.invariant.0 c.loop-rest-test.false;
-      kept = c.loop-rest.invariant.1;
-    }
+pub returns-clause-read : goal.returns-clause-read
+returns-clause-read g c = all_read _ _ _ _ _ _ c.loop-before.invariant.3 c.in-None.ensures.steps.0.1.0

@@ -1,9 +1,9 @@
-use Rattle.std.proofs.Common.{length, get_or, sym, ap, ◌∙◌}
+use Rattle.std.proofs.Common.{length, get_or, sym, ap, ◌∙◌, arith}
 use Rattle.record.proofs.Lettered.{line_length, reads_block, reads_setting}
 use Rattle.record.proofs.read.guessed.Goals as goal
 
-pub returns-then-bytes-ne10 : goal.returns-then-bytes-ne10
-returns-then-bytes-ne10 c l e = absurd (c.if-bytes-ne10.true (ap length e ∙ line_length l))
+pub returns-in_default-2 : goal.returns-in_default-2
+returns-in_default-2 c l e = absurd (omega (arith, ap length e ∙ line_length l))
 
 pub returns : goal.returns
 returns c l e =

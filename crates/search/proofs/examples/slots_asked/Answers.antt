@@ -3,10 +3,10 @@ use Rattle.scales.specs.declared.refusal.Refusal.{Refusal}
 use Rattle.scales.specs.declared.refusal.Stop.TheVariants.{AreaTooSmall}
 use Rattle.scales.specs.Stops.{no_place}
 use Rattle.blocks.specs.declared.line.Line.{Line}
-use Rattle.blocks.specs.declared.slot.Slot.{Slot}
 use Rattle.blocks.specs.Sinks.{Step}
 use Rattle.search.specs.declared.verdict.Verdict.{Verdict as Answered}
 use Rattle.search.specs.Solve.{Solved, used}
+use Rattle.blocks.specs.Slots.{Slot}
 use Rattle.blocks.specs.Sheets.{Sheet, Proper}
 use Rattle.search.proofs.Listing.{free_193}
 use Rattle.search.proofs.examples.slots_asked.Goals as goal

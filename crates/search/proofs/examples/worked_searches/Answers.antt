@@ -1,14 +1,15 @@
 use Rattle.std.proofs.Common.{◌≡◌, ℕ, zero, suc, ◌≤◌, List, [], ◌∷◌, length, Some, refl, subst, arith}
 use Rattle.std.specs.List.{slice_get}
 use Rattle.std.proofs.lemmas.Bool.Decides.{nat_tests}
+use Rattle.std.proofs.lemmas.Option.{none-some}
 use Rattle.blocks.specs.declared.bound.Bound.TheVariants.{AtMost, AtLeast}
 use Rattle.blocks.specs.Counts.{bounds_below}
 use Rattle.blocks.specs.Ranges.{Ranges, Stands}
 use Rattle.blocks.specs.Rules.{rule_block, with_rules}
 use Rattle.blocks.specs.Sheets.{Sheet, Proper}
 use Rattle.blocks.proofs.Numbers.{some_same}
-use Rattle.search.specs.Examples.{two_settings, four_rules, nothing}
-use Rattle.search.proofs.Total.{none_some}
+use Rattle.blocks.specs.Meeting.{two_settings, four_rules}
+use Rattle.search.specs.Examples.{nothing}
 use Rattle.search.proofs.Listing.{always_ends}
 use Rattle.search.proofs.examples.worked_searches.Goals as goal
 
@@ -23,7 +24,7 @@ Every P (b ∷ bs) = P b × Every P bs
 
 -- what holds of each of these blocks holds of each that is there
 each : (P : Ranges → Type 0) (bs : List Ranges) → Every P bs → (i : ℕ) (b : Ranges) → slice_get bs i ≡ Some b → P b
-each P [] h i b e = absurd (none_some e)
+each P [] h i b e = absurd (none-some _ e)
 each P (a ∷ bs) h zero b e = subst P (some_same refl e) h.0
 each P (a ∷ bs) h (suc i) b e = each P bs h.1 i b e
 
@@ -46,7 +47,7 @@ four_proper = record {
 }
 
 empty_proper : Proper nothing
-empty_proper = record { twelve = omega arith; beyond = λ i l. refl; few = omega arith; stand = λ i b e. absurd (none_some e); four = λ i b e. absurd (none_some e) }
+empty_proper = record { twelve = omega arith; beyond = λ i l. refl; few = omega arith; stand = λ i b e. absurd (none-some _ e); four = λ i b e. absurd (none-some _ e) }
 
 pub returns : goal.returns
 returns c = record {

@@ -1,15 +1,12 @@
-use Rattle.std.proofs.Common.{◌≡◌, ℕ, ◌+◌, length, Some, None, sym, refl, ap, ◌∙◌, subst, add-one, arith}
+use Rattle.std.proofs.Common.{◌≡◌, ℕ, ◌+◌, length, Some, None, sym, ap, ◌∙◌, subst, add-one, arith}
 use Rattle.blocks.specs.declared.status.Status.TheVariants.{Dead}
 use Rattle.blocks.specs.Status.{see, Tells}
 use Rattle.blocks.specs.Views.{ranges}
 use Rattle.blocks.proofs.Seeing.{seen_below, seen_status, seen_dead}
 use Rattle.blocks.proofs.Viewing.{held_past}
 use Rattle.search.specs.Scans.{holding}
-use Rattle.search.proofs.Scanning.{Passed, place_at, passed_none, passed_empty, passed_dead, passed_open, passed_all, only_open}
+use Rattle.search.proofs.Scanning.{Passed, place_at, passed_empty, passed_dead, passed_open, passed_all, only_open}
 use Rattle.search.proofs.scan.scan_over.Goals as goal
-
-pub places-init : goal.places-init
-places-init g c = passed_none (ranges c.args.region.now) (holding g.P.Place.holds c.args.places.now)
 
 pub places-preserved-in_default : goal.places-preserved-in_default
 places-preserved-in_default g c =
@@ -29,9 +26,6 @@ places-preserved-in-Dead g c =
     let n = c.loop-setting.setting in
     let seen : seen_below region block (n + 1) ≡ Dead = rw add-one (sym (ap (see region block n) c.loop-setting.invariant.0) ∙ sym c.in-Dead.ensures) in
     passed_dead region (holding holds places) i block at c.places.alive (seen_dead region block (n + 1) seen) c.places.invariant
-
-pub loop-setting-init : goal.loop-setting-init
-loop-setting-init g c = (refl, λ e. let z : ◌≡◌ {A = ℕ} 0 1 = cc in omega arith)
 
 pub loop-setting-preserved : goal.loop-setting-preserved
 loop-setting-preserved g c =

@@ -1,25 +1,19 @@
-use Rattle.std.proofs.Common.{◌≤◌, arith}
-use Rattle.blocks.specs.Views.{ranges}
-use Rattle.blocks.proofs.Arrays.{each_of}
+use Rattle.std.proofs.Common.{rules}
+use borrow.Author.Tests.{tests}
+use Rattle.std.proofs.lemmas.Iterator.{YieldsList-from_slice, YieldsList-from_zip, cases_from_all}
+use Rattle.blocks.specs.Views.{interval_at, ranges}
+use Rattle.blocks.proofs.Pairs.{Within, Sticks, inside_pairs}
 use Rattle.blocks.proofs.Ranging.{inside_means}
-use Rattle.blocks.proofs.Viewing.{held_past}
-use Rattle.blocks.proofs.block.Block.is_inside.Goals.{then-self-i-via-then-self-i, then-self-i-via-else-self-i+then-other-i}
 use Rattle.blocks.proofs.block.Block.is_inside.Goals as goal
 
-pub returns-then-self-i : goal.returns-then-self-i
-returns-then-self-i c =
+pub returns-clause-answer : goal.returns-clause-answer
+returns-clause-answer c =
     let a = c.args.self.now in
     let b = c.args.other.now in
-    record {
-      answer = λ h. let k = h c.loop-i.i in elim c.then-self-i.branch [ then-self-i-via-then-self-i w ↦ omega (arith, w.if-self-i.true) | then-self-i-via-else-self-i+then-other-i w ↦ omega (arith, w.if-other-i.true) ];
-      profiles = inside_means (ranges a) (ranges b) a.ordered;
-    }
+    inside_pairs a b c.all.result
+    (cases_from_all c.all.new.self _ _ Within Sticks c.all.ensures.ran
+    (YieldsList-from_zip (YieldsList-from_slice a.intervals (search rules)) (YieldsList-from_slice b.intervals (search rules)))
+    (λ x q k. search (rules, tests)) (λ x q k. search (rules, tests)))
 
-pub returns : goal.returns
-returns c =
-    let a = c.args.self.now in
-    let b = c.args.other.now in
-    record {
-      answer = each_of (λ k. ((ranges b).low k ≤ (ranges a).low k) × ((ranges a).high k ≤ (ranges b).high k)) 12 (λ k l. c.loop-i.invariant k (omega arith)) (held_past a b);
-      profiles = inside_means (ranges a) (ranges b) a.ordered;
-    }
+pub returns-clause-profiles : goal.returns-clause-profiles
+returns-clause-profiles c = inside_means (ranges c.args.self.now) (ranges c.args.other.now) (λ i. (interval_at c.args.self.now i).ordered)

@@ -1,22 +1,10 @@
-use Rattle.std.proofs.Common.{sym, subst}
-use Rattle.blocks.specs.declared.bound.Bound.{Bound}
-use Rattle.blocks.specs.Ranges.{with_end}
-use Rattle.blocks.specs.Views.{ranges, BlockOf}
-use Rattle.blocks.proofs.Viewing.{back}
+use Rattle.std.proofs.Common.{arith}
+use Rattle.blocks.specs.Views.{ranges}
+use Rattle.blocks.proofs.Viewing.{crossed_high, crossed_low}
 use Rattle.blocks.proofs.block.Block.undo.Goals as goal
 
-pub returns-in-AtMost : goal.returns-in-AtMost
-returns-in-AtMost c =
-    let g = ranges c.args.self.now in
-    record {
-      answer = subst (λ (β : Bound). BlockOf (with_end β c.args.end g) c.with_high.result) (sym c.in-AtMost.is) c.with_high.ensures;
-      back = back c.args.bound c.args.end g;
-    }
+pub returns-in_err-new-in-AtMost-clause-answer : goal.returns-in_err-new-in-AtMost-clause-answer
+returns-in_err-new-in-AtMost-clause-answer c = rw (c.from_residual.ensures, c.in-AtMost.is) (crossed_high (ranges c.args.self.now) c.in-AtMost.setting c.args.end (omega (arith, c.in_err-new-in-AtMost.ensures)))
 
-pub returns-in-AtLeast : goal.returns-in-AtLeast
-returns-in-AtLeast c =
-    let g = ranges c.args.self.now in
-    record {
-      answer = subst (λ (β : Bound). BlockOf (with_end β c.args.end g) c.with_low.result) (sym c.in-AtLeast.is) c.with_low.ensures;
-      back = back c.args.bound c.args.end g;
-    }
+pub returns-in_err-new-in-AtLeast-clause-answer : goal.returns-in_err-new-in-AtLeast-clause-answer
+returns-in_err-new-in-AtLeast-clause-answer c = rw (c.from_residual-in_err-new-in-AtLeast.ensures, c.in-AtLeast.is) (crossed_low (ranges c.args.self.now) c.in-AtLeast.setting c.args.end (omega (arith, c.in_err-new-in-AtLeast.ensures)))

@@ -1,28 +1,25 @@
-use Rattle.std.proofs.Common.{get_or, sym, subst, arith, below_more}
-use Rattle.blocks.specs.Views.{blocks, nowhere, FitToStand}
-use Rattle.blocks.proofs.Viewing.{block_item}
+use Rattle.std.proofs.Common.{arith, rules}
+use borrow.Author.Tests.{tests}
+use Rattle.std.proofs.lemmas.Bool.{MatchBool-at_true, MatchBool-at_false}
+use Rattle.std.proofs.lemmas.Iterator.{YieldsList-from_slice, cases_from_all}
+use Rattle.blocks.proofs.Posting.{Fit, all_fit}
+use Rattle.blocks.proofs.problem.Problem.pose.Goals.{then-rules-gt48-via-then-rules-gt48, then-rules-gt48-via-else-rules-gt48+then-not-all}
 use Rattle.blocks.proofs.problem.Problem.pose.Goals as goal
 
-pub returns-then-not-holds : goal.returns-then-not-holds
-returns-then-not-holds c fit =
-    let i = c.loop-rule.rule-index in
-    let s = c.rule-item.result in
-    c.if-not-holds.ensures (subst (FitToStand c.args.lasts.now) (sym (block_item c.args.rules.now i s c.loop-rule-test.true c.rule-item.is)) (fit.each i c.loop-rule-test.true))
-
-pub loop-rule-preserved : goal.loop-rule-preserved
-loop-rule-preserved c =
+pub returns-then-rules-gt48 : goal.returns-then-rules-gt48
+returns-then-rules-gt48 c fit =
     let l = c.args.lasts.now in
-    let rules = c.args.rules.now in
-    let i = c.loop-rule.rule-index in
-    let s = c.rule-item.result in
-    below_more (λ k. FitToStand l (get_or (blocks rules) k nowhere)) i c.loop-rule.invariant
-    (subst (FitToStand l) (block_item rules i s c.loop-rule-test.true c.rule-item.is) c.if-not-holds.ensures)
+    let ss = c.args.rules.now in
+    elim c.then-rules-gt48.branch [
+      | then-rules-gt48-via-then-rules-gt48 w ↦ omega (arith, fit.few, w.if-rules-gt48.true)
+      | then-rules-gt48-via-else-rules-gt48+then-not-all w ↦
+          let h = all_fit l ss w.all.result (cases_from_all w.all.new.self _ _ (Fit l ss) (λ s. Fit l ss s → ⊥) w.all.ensures.ran (YieldsList-from_slice ss (search rules)) (λ x q k. search (rules, tests)) (λ x q k. search (rules, tests))) in
+          MatchBool-at_false _ _ w.if-not-all.true h fit
+    ]
 
 pub invariant_of-result : goal.invariant_of-result
 invariant_of-result c =
-    let each = c.loop-rule.invariant in
-    record {
-      few = omega arith;
-      within = λ i j h. (each i (omega arith)).within j;
-      four = λ i h. (each i (omega arith)).four;
-    }
+    let l = c.args.lasts.now in
+    let ss = c.args.rules.now in
+    let h = all_fit l ss c.all.result (cases_from_all c.all.new.self _ _ (Fit l ss) (λ s. Fit l ss s → ⊥) c.all.ensures.ran (YieldsList-from_slice ss (search rules)) (λ x q k. search (rules, tests)) (λ x q k. search (rules, tests))) in
+    record { fit = record { few = c.if-rules-gt48.false; each = MatchBool-at_true _ _ c.if-not-all.false h } }

@@ -1,5 +1,5 @@
 use Rattle.std.proofs.Common.{◌≡◌, ℕ, length, sym, subst, arith}
-use Rattle.blocks.specs.Views.{ranges, last_at}
+use Rattle.blocks.specs.Views.{interval_at, ranges, last_at}
 use Rattle.blocks.proofs.Admitting.{BreakingFirst, breaking_none, breaking_fails, breaking_stops, breaking_more, breaking_all}
 use Rattle.blocks.proofs.problem.admit.breaking.Goals as goal
 
@@ -21,7 +21,7 @@ pub loop-bound-preserved : goal.loop-bound-preserved
 loop-bound-preserved c =
     let r = c.in_ok-region.ensures in
     breaking_more (last_at c.args.lasts.now) c.args.bounds.now c.loop-bound.bound-index (ranges c.loop-bound.region) c.loop-bound.invariant c.loop-bound-test.true
-    c.in_ok-opposite.field-0 c.in_ok-opposite.ensures (ranges c.in_ok-region.region) c.in_ok-region.region.ordered r.0 r.1
+    c.in_ok-opposite.field-0 c.in_ok-opposite.ensures (ranges c.in_ok-region.region) (λ i. (interval_at c.in_ok-region.region i).ordered) r.0 r.1
 
 pub returns : goal.returns
 returns c =

@@ -1,8 +1,7 @@
-use Rattle.std.proofs.Common.{length, ap, ◌∙◌}
+use Rattle.std.proofs.Common.{ap, ◌∙◌}
 use Rattle.std.specs.Option.{option_or}
-use Rattle.blocks.specs.Slots.{slot_at}
 use Rattle.blocks.specs.Views.{ranges}
-use Rattle.search.proofs.Looking.{scanned_rules, scanned_broken, scanned_forcing, scanned_quiet, alive_below}
+use Rattle.search.proofs.Looking.{scanned_rules, scanned_broken, scanned_forcing, scanned_quiet}
 use Rattle.search.proofs.numbered.Numbered.scan.Goals as goal
 
 pub returns-in-Broken : goal.returns-in-Broken
@@ -10,9 +9,6 @@ returns-in-Broken c = scanned_broken (ranges c.args.region.now) c.args.self.now.
 
 pub returns-in-Forcing : goal.returns-in-Forcing
 returns-in-Forcing c = scanned_forcing (ranges c.args.region.now) c.args.self.now.rules.now c.args.self.now.filled.now c.requires.0 c.in-Quiet.alive c.in-Quiet.ensures c.in-Forcing.j c.in-Forcing.bound c.in-Forcing.ensures
-
-pub block_of_slot-requires : goal.block_of_slot-requires
-block_of_slot-requires c = alive_below (ranges c.args.region.now) (slot_at c.args.self.now.filled.now) (length c.args.self.now.filled.now) c.in-Quiet-scan_over.slot c.requires.1 c.in-Quiet-scan_over.ensures.1
 
 pub returns-in-Quiet-scan_over : goal.returns-in-Quiet-scan_over
 returns-in-Quiet-scan_over c =

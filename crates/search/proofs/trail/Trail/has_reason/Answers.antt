@@ -1,16 +1,19 @@
-use Rattle.std.proofs.Common.{◌≡◌, ℕ, subst, add-one, arith}
+use Rattle.std.proofs.Common.{◌≡◌, ℕ, ◌<◌, true, false, Bool, List, length, MatchBool, Some, ◌∙◌, arith, rules, tests}
+use Rattle.std.specs.List.{HoldsAt, AllWithin}
+use Rattle.std.proofs.lemmas.Iterator.{cases_from_any, YieldsList-from_slice}
+use Rattle.search.specs.declared.trail.TrailEntry.{TrailEntry}
 use Rattle.search.specs.Search.{IsReason}
-use Rattle.search.specs.Trails.{trail_below}
-use Rattle.search.proofs.Trailing.{reason_at, no_reason_more}
+use Rattle.search.specs.Trails.{no_entry, trail_below}
+use Rattle.search.proofs.Trailing.{reason_at, no_reason}
 use Rattle.search.proofs.trail.Trail.has_reason.Goals as goal
 
-pub returns-then-is : goal.returns-then-is
-returns-then-is c = reason_at c.args.self.now.entries c.args.block c.loop-i.i c.args.self.now.len c.loop-i-test.true c.if-is.ensures
-
-pub loop-i-preserved : goal.loop-i-preserved
-loop-i-preserved c = rw add-one (no_reason_more c.args.self.now.entries c.args.block c.loop-i.i c.if-is.ensures c.loop-i.invariant)
+-- what the call answers, as a fact of the trail
+told : (r : Bool) (xs : List TrailEntry) (k : ℕ) → MatchBool r ((i : ℕ) × (i < length xs) × HoldsAt (λ (e : TrailEntry). e.reason ≡ Some k) xs i) (AllWithin (λ (e : TrailEntry). e.reason ≡ Some k → ⊥) xs 0 (length xs))
+    → MatchBool r (IsReason (trail_below xs (length xs)) k) (IsReason (trail_below xs (length xs)) k → ⊥)
+told true xs k h = reason_at xs k h.0 (length xs) h.1 (h.2 no_entry)
+told false xs k h = no_reason xs k (length xs) (λ i l. h i no_entry (omega arith) l)
 
 pub returns : goal.returns
 returns c =
-    let all : c.loop-i.i ≡ c.args.self.now.len = omega arith in
-    subst (λ (n : ℕ). IsReason (trail_below c.args.self.now.entries n) c.args.block → ⊥) all c.loop-i.invariant
+    told c.any.result c.args.self.now.entries.items c.args.block
+    (cases_from_any _ _ _ (λ (e : TrailEntry). e.reason ≡ Some c.args.block) (λ (e : TrailEntry). e.reason ≡ Some c.args.block → ⊥) c.any.ensures.ran (YieldsList-from_slice c.args.self.now.entries.items (c.iter.ensures.rest ∙ c.deref.ensures.0)) (λ x q k. search (rules, tests)) (λ x q k. search (rules, tests)))
