@@ -13,7 +13,8 @@ use scale_edges::refused;
 use std::process::Abort;
 use std::test::Fail;
 
-// Each line is answered by this number, 0 where it is taken, before and when it is sent.
+// Each line is answered by this number, 0 where it is taken, before and when it is sent. The tables hold
+// the numbers that users are told.
 fn answered(rt: &impl Abort, judge: &mut Judge, lines: &[(Line, u8)]) -> Result<(), Fail> {
     for (line, number) in lines {
         let asked = refused(judge.check(*line)).map_or(0, |(number, _)| number);

@@ -39,7 +39,7 @@ impl Place for Slot {
 pub enum Scan {
     // the first block that is broken or forcing is this one, and broken
     Broken(usize),
-    // it is this one, and forces this bound
+    // it is this one, and forces this bound, told as the project wants a bound told
     Forcing(usize, (u8, u8, u32)),
     // no block is broken or forcing; the first that is not dead, if any
     Quiet(Option<usize>),

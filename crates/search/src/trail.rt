@@ -6,7 +6,8 @@ use blocks::bound::Bound;
 
 pub mod reasons;
 
-// Why a bound is on the trail: the number of the block that forced it, or none where it was decided.
+// Why a bound is on the trail: the number of the block that forced it, or none where it was decided. By
+// number, as lines name blocks: the area is written meanwhile, so a reference would not do.
 pub type Reason = Option<usize>;
 
 // An entry of the trail. It keeps the end that its bound has narrowed, so that it can be undone.

@@ -1,3 +1,5 @@
+ghost use Rattle.std.specs.Prelude.{◌≡◌, ◌+◌, ◌<◌};
+ghost use Rattle.blocks.specs.Lines.{k_line};
 ghost use Rattle.blocks.specs.Problems.{posed};
 ghost use Rattle.blocks.specs.Views.{ranges};
 ghost use Rattle.search.specs.Moves.{GoingIn, MovedOn, SameWithin, BreaksFirst, Learnt, KeepsOn};
@@ -9,6 +11,14 @@ use blocks::line::Line;
 use blocks::line::numbers::BlockNumber;
 use blocks::sink::Sink;
 use blocks::status::Status;
+
+// The line that keeps the work block in a slot.
+fn kept_in(slot: usize) -> Line
+    requires { slot < 4096 }
+    ensures { result ≡ k_line (100 + slot) }
+{
+    Line::Keep(BlockNumber::stopping(100 + slot))
+}
 
 impl<K: Sink> Search<'_, '_, '_, K> {
     // The work block of an analysis is kept in the first free slot, and its one open bound joins the trail.
@@ -24,8 +34,7 @@ impl<K: Sink> Search<'_, '_, '_, K> {
         self.area[slot] = Some(work);
         self.course.filled = self.course.filled.max(slot + 1);
         self.course.next = slot + 1;
-        self.tally
-            .send(self.sink, Line::Keep(BlockNumber::stopping(100 + slot)));
+        self.tally.send(self.sink, kept_in(slot));
         let Status::Forcing(bound) = work.status(&self.course.region) else {
             unreachable()
         };

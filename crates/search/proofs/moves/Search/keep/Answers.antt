@@ -1,6 +1,5 @@
 use Rattle.std.proofs.Common.{◌≡◌, ℕ, ◌+◌, Some, sym, ap, ◌∙◌, subst, subst₂}
 use Rattle.blocks.specs.declared.bound.Bound.{Bound}
-use Rattle.blocks.specs.declared.line.Line.TheVariants.{Keep}
 use Rattle.blocks.specs.Bounds.{Profile, Meets}
 use Rattle.blocks.specs.Ranges.{In}
 use Rattle.blocks.specs.Problems.{posed}
@@ -41,4 +40,4 @@ returns-clause-did g c =
     let at : ℕ → Course = λ n. record { trail = s.course.trail; region = s.course.region; filled = n; next = slot + 1 } in
     let joined = subst₂ (λ (n : ℕ) (β : Bound). Joined (at n) β (Some (100 + slot)) c.join.new.self) c.max-self.ensures is c.join.ensures in
     keeps_in g.K.Sink.step (posed s.problem) c.args.work s.course s.area.now p slot c.in-Some.ensures forced.0 forced.2 c.join.new.self joined
-    f (feed c.send.new.self (g.K.Sink.model c.send.new.sink)) (c.send.ensures.after ∙ ap (λ b. fed g.K.Sink.step f (Keep b)) c.stopping.ensures)
+    f (feed c.send.new.self (g.K.Sink.model c.send.new.sink)) (c.send.ensures.after ∙ ap (λ l. fed g.K.Sink.step f l) c.kept_in.ensures)
