@@ -1,4 +1,4 @@
-// The makers' rules admitted one by one, each with its block in values, and rules that are refused.
+// The makers' rules posted one by one, each with its block in values, and rules that are refused.
 use crate::card::{Card, Setting};
 use crate::desk::Desk;
 use crate::error::TourError;
@@ -24,8 +24,8 @@ fn post(rt: &impl Print, desk: &mut Desk, rule: &MakersRule<2>) -> Result<(), To
     match desk.post(&bounds) {
         Ok(number) => {
             println!(rt; "  rule {number}: {rule}")?;
-            if let Some(standing) = desk.rules.problem().rules().last() {
-                show_block(rt, &desk.card, &standing.block)?;
+            if let Some(block) = desk.sheet.block(number) {
+                show_block(rt, &desk.card, &block)?;
             }
         }
         Err(refusal) => println!(rt; "  {rule}: {refusal}")?,

@@ -8,11 +8,13 @@ use scales::refusal::Refusal;
 
 pub(crate) fn show(rt: &impl Print, desk: &Desk) -> Result<(), TourError> {
     println!(rt; "\nThe profile against the rules:")?;
-    for (number, standing) in desk.rules.problem().rules().iter().enumerate() {
-        if is_in(&desk.card, &CANDIDATE, &standing.block)? {
-            println!(rt; "  breaks rule {number}")?;
-        } else {
-            println!(rt; "  meets rule {number}")?;
+    for number in 0..desk.sheet.rules() {
+        if let Some(block) = desk.sheet.block(number) {
+            if is_in(&desk.card, &CANDIDATE, &block)? {
+                println!(rt; "  breaks rule {number}")?;
+            } else {
+                println!(rt; "  meets rule {number}")?;
+            }
         }
     }
     Ok(())

@@ -9,13 +9,15 @@ use crate::limit::Limit;
 use crate::words::Amount;
 use blocks::block::Block;
 use blocks::bound::Bound;
-use blocks::lasts::Lasts;
 use scales::grade::Grade;
 use scales::reading::Reading;
 use scales::refusal::Refusal;
 use scales::scale::Scale;
+use scales::settings::{Also, Empty};
 use scales::whole::Whole;
 use scales::window::Window;
+use sheet::draft::Draft;
+use sheet::name::Name;
 use std::fmt;
 
 // What a setting of the card is about.
@@ -35,6 +37,17 @@ impl Quantity {
             Quantity::Timeout => " s",
             Quantity::Temperature => " C",
         }
+    }
+
+    // the name of its setting on the sheet
+    pub(crate) fn sheet_name(self) -> Name {
+        let bytes = match self {
+            Quantity::QueueDepth => *b"queue   ",
+            Quantity::Timeout => *b"timeout ",
+            Quantity::Temperature => *b"temp    ",
+            Quantity::Grade => *b"grade   ",
+        };
+        Name { bytes }
     }
 }
 
@@ -89,42 +102,46 @@ impl<S: Scale> Setting<S> {
     }
 }
 
-// The card's settings, and their last positions.
+// The scales of the card's settings, in order.
+pub(crate) type Scales = Also<
+    Window<Whole>,
+    Also<Window<Whole>, Also<Reading, Also<Grade, Empty>>>,
+>;
+
+// The card's settings.
 #[derive(Drop)]
 pub(crate) struct Card {
     pub(crate) depth: Setting<Window<Whole>>,
     pub(crate) timeout: Setting<Window<Whole>>,
     pub(crate) temperature: Setting<Reading>,
     pub(crate) grade: Setting<Grade>,
-    pub(crate) lasts: Lasts,
 }
 
 impl Card {
-    pub(crate) fn new() -> Result<Card, Refusal> {
-        let mut lasts = Lasts::new();
+    // The card, with its settings declared on the draft in order.
+    pub(crate) fn new(draft: &mut Draft) -> Result<Card, Refusal> {
         let depth = Window::new(Whole, 1, 64)?;
-        let depth = declare(&mut lasts, Quantity::QueueDepth, depth)?;
+        let depth = declare(draft, Quantity::QueueDepth, depth)?;
         let timeout = Window::new(Whole, 1, 30)?;
-        let timeout = declare(&mut lasts, Quantity::Timeout, timeout)?;
-        let temperature = declare(&mut lasts, Quantity::Temperature, Reading)?;
-        let grade = declare(&mut lasts, Quantity::Grade, Grade::new(b"LMH")?)?;
+        let timeout = declare(draft, Quantity::Timeout, timeout)?;
+        let temperature = declare(draft, Quantity::Temperature, Reading)?;
+        let grade = declare(draft, Quantity::Grade, Grade::new(b"LMH")?)?;
         Ok(Card {
             depth,
             timeout,
             temperature,
             grade,
-            lasts,
         })
     }
 }
 
 // One setting more, behind the others.
 fn declare<S: Scale + Drop>(
-    lasts: &mut Lasts,
+    draft: &mut Draft,
     quantity: Quantity,
     scale: S,
 ) -> Result<Setting<S>, Refusal> {
-    let number = lasts.declare(&scale)?;
+    let number = draft.declare(&scale, quantity.sheet_name())?;
     Ok(Setting {
         quantity,
         number,

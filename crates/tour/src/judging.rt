@@ -5,6 +5,7 @@ use crate::demands::{DEEP_QUEUE, SHORT_TIMEOUT};
 use crate::error::TourError;
 use crate::grounds::{LineText, RIGHT, WRONG_RULE, WRONG_SETTING};
 use crate::rules::DEPTH_OR_TIMEOUT;
+use blocks::lasts::Lasts;
 use blocks::rule::Rule;
 use blocks::ruleset::RuleSet;
 use blocks::sink::Sink;
@@ -27,8 +28,18 @@ pub(crate) fn show(rt: &impl Print, card: &Card) -> Result<(), TourError> {
     show_judged(rt, card, &WRONG_RULE)
 }
 
+// The last positions of the card's settings, from which a judge is opened without a sheet.
+fn lasts_of(card: &Card) -> Result<Lasts, Refusal> {
+    let mut lasts = Lasts::new();
+    lasts.declare(&card.depth.scale)?;
+    lasts.declare(&card.timeout.scale)?;
+    lasts.declare(&card.temperature.scale)?;
+    lasts.declare(&card.grade.scale)?;
+    Ok(lasts)
+}
+
 // Opens the rules for a judge, in the place that it will look them up in.
-fn open_conflict(card: &Card, place: &mut RuleSet) -> Result<(), Refusal> {
+fn open_conflict(card: &Card, lasts: &Lasts, place: &mut RuleSet) -> Result<(), Refusal> {
     let either = DEPTH_OR_TIMEOUT.bounds(card)?;
     let deep = DEEP_QUEUE.bounds(card)?;
     let short = SHORT_TIMEOUT.bounds(card)?;
@@ -37,7 +48,7 @@ fn open_conflict(card: &Card, place: &mut RuleSet) -> Result<(), Refusal> {
         Rule { bounds: &deep },
         Rule { bounds: &short },
     ];
-    open(&card.lasts, &rules, place)
+    open(lasts, &rules, place)
 }
 
 // Shows what a judge on the rules says to each line, and what it finds.
@@ -46,8 +57,9 @@ fn show_judged(
     card: &Card,
     record: &[&'static [u8; 10]; 4],
 ) -> Result<(), TourError> {
-    let mut place = RuleSet::new(card.lasts);
-    open_conflict(card, &mut place)?;
+    let lasts = lasts_of(card)?;
+    let mut place = RuleSet::new(lasts);
+    open_conflict(card, &lasts, &mut place)?;
     let mut area = [None; 1];
     let mut judge = Judge::new(place.problem(), &mut area);
     let shown = show_lines(rt, &mut judge, record);

@@ -1,8 +1,8 @@
 // A record that the search wrote, as text and before a judge.
+use crate::card::Scales;
 use crate::grounds::LineText;
-use blocks::ruleset::RuleSet;
-use checker::judge::Judge;
-use record::feed::feed_record;
+use blocks::slot::Slot;
+use sheet::sheet::Sheet;
 use std::{fmt, io};
 
 // The lines of a record, ten bytes each, set in and each behind a line break of its own.
@@ -25,20 +25,14 @@ pub(crate) fn show_grounds(rt: &impl Print, lines: u32, record: &[u8]) -> io::Re
     println!(rt; "\nThe search finds none. Its grounds have {lines} lines:{text}")
 }
 
-// Shows what a judge on the same rules finds in the record.
-pub(crate) fn show_reading(rt: &impl Print, rules: &RuleSet, record: &[u8]) -> io::Result<()> {
-    // the judge has its own copy of the rules, and as many slots as the search had
-    let rules = *rules;
-    let mut area = [None; 193];
-    let mut judge = Judge::new(rules.problem(), &mut area);
-    let read = feed_record(&mut judge, record);
-    let found = judge.finding();
-    if let Err(halt) = read {
-        let line = halt.line;
-        let number = halt.cause.number();
-        return println!(rt; "The judge refuses line {line}, number {number}");
-    }
-    match found {
+// Shows what the sheet's judge finds in the record.
+pub(crate) fn show_reading(
+    rt: &impl Print,
+    sheet: &Sheet<Scales>,
+    record: &[u8],
+    area: &mut [Slot],
+) -> io::Result<()> {
+    match sheet.judge(record, area) {
         Ok(()) => println!(rt; "The judge accepts them: no profile meets these rules"),
         Err(refusal) => println!(rt; "The judge finds: {refusal}"),
     }

@@ -1,5 +1,5 @@
 // The search over the makers' rules: the profile that it finds, then one rule more, on which it
-// finds none and writes a record of its grounds that a judge reads.
+// finds none and writes a record of its grounds. The judge reads it whole, and then tampered with.
 use crate::card::{Card, Setting};
 use crate::demands::{LONG_QUEUE, LOW_GRADE, NOT_TOO_COLD};
 use crate::desk::Desk;
@@ -17,13 +17,20 @@ pub(crate) fn show(rt: &impl Print, desk: &mut Desk) -> Result<(), TourError> {
     println!(rt; "\nTwo rules more, behind the makers' three:")?;
     post(rt, desk, &NOT_TOO_COLD)?;
     post(rt, desk, &LONG_QUEUE)?;
-    // one area serves both searches: each starts cold, whatever the one before left in it
+    // one area serves the searches and the judge: each starts cold, whatever was left in it
     let mut area = [None; 193];
     let mut buffer = [b' '; 100];
     show_search(rt, desk, &mut area, &mut buffer)?;
     println!(rt; "\nOne rule more:")?;
     post(rt, desk, &LOW_GRADE)?;
-    show_search(rt, desk, &mut area, &mut buffer)
+    show_search(rt, desk, &mut area, &mut buffer)?;
+    // the grounds are four lines of ten bytes each
+    println!(rt; "\nThe same without the last line:")?;
+    show_reading(rt, &desk.sheet, &buffer[0..30], &mut area)?;
+    println!(rt; "\nThe same with setting 1 in line 2:")?;
+    buffer[18] = b'1';
+    show_reading(rt, &desk.sheet, &buffer[0..40], &mut area)?;
+    Ok(())
 }
 
 fn post(rt: &impl Print, desk: &mut Desk, demand: &MakersRule<1>) -> Result<(), TourError> {
@@ -42,7 +49,7 @@ fn show_search(
 ) -> Result<(), TourError> {
     let mut record = Record::new(buffer);
     let verdict = desk.search(area, &mut record)?;
-    show_verdict(rt, desk, &verdict, record.written())
+    show_verdict(rt, desk, &verdict, record.written(), area)
 }
 
 fn show_verdict(
@@ -50,6 +57,7 @@ fn show_verdict(
     desk: &Desk,
     verdict: &Verdict,
     written: &[u8],
+    area: &mut [Slot],
 ) -> Result<(), TourError> {
     match &verdict.found {
         Some(region) => {
@@ -58,7 +66,7 @@ fn show_verdict(
         }
         None => {
             show_grounds(rt, verdict.lines, written)?;
-            show_reading(rt, &desk.rules, written)?;
+            show_reading(rt, &desk.sheet, written, area)?;
             Ok(())
         }
     }

@@ -1,6 +1,7 @@
 // How the tour writes values and limits.
 use crate::card::Quantity;
 use crate::limit::Limit;
+use sheet::name::Name;
 use std::fmt;
 
 // A kind of value that can be shown to a person, as it is printed if not said otherwise.
@@ -60,5 +61,19 @@ impl<V: Show> fmt::Display for LimitWords<V> {
         let value = self.limit.value;
         let amount = Amount { quantity, value };
         write!(f, "{quantity} {side} {amount}")
+    }
+}
+
+// The name of a setting, byte by byte.
+#[derive(Clone, Copy)]
+pub(crate) struct NameText(pub(crate) Name);
+
+impl fmt::Display for NameText {
+    fn fmt<W: fmt::Write>(&self, f: &mut fmt::Formatter<W>) -> fmt::Result {
+        for byte in &self.0.bytes {
+            let c = char::from(*byte);
+            write!(f, "{c}")?;
+        }
+        Ok(())
     }
 }
