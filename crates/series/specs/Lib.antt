@@ -4,5 +4,6 @@ pub mod Accepting
 pub mod Solving
 pub mod Calls
 pub mod Series
+pub mod Standing
 pub mod Choices
 pub mod Theorem

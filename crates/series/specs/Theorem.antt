@@ -8,7 +8,7 @@ use Rattle.scales.specs.Models.{ScaleModel}
 use Rattle.scales.specs.Choices.{AllKeep, Choice, OnScales, lasts}
 use Rattle.blocks.specs.declared.line.Line.{Line}
 use Rattle.blocks.specs.Ranges.{Ranges, In}
-use Rattle.blocks.specs.Rules.{admit_checks, with_rules, rules_checks}
+use Rattle.blocks.specs.Rules.{admit_checks, rules_checks}
 use Rattle.blocks.specs.Sheets.{Sheet}
 use Rattle.record.specs.LineBytes.{line_bytes}
 use Rattle.search.specs.Search.{found, none}
@@ -20,11 +20,8 @@ use Rattle.series.specs.Accepting.{Accepts, AcceptsBytes}
 use Rattle.series.specs.Solving.{Area, Told, Searches}
 use Rattle.series.specs.Calls.{Rule, Call, post, try, solve, judge, Reply, refused, posted, verdict, accepted, Answer, answer, Does}
 use Rattle.series.specs.Series.{History, and, newly_closed, Series, standing}
+use Rattle.series.specs.Standing.{sheet_with}
 use Rattle.series.specs.Choices.{ChoiceMeetsRule, NoChoice, AllMeet, positions, AllMade}
-
--- the sheet of these settings on which these rules stand, in order
-abbrev pub sheet_with : List ℕ → List Rule → Sheet
-sheet_with lasts rs = with_rules (newly_closed lasts) rs
 
 -- A search that a call carried out: the rules that stood at it, the area and the sink that it was handed, what it told, what
 -- its sink was sent, and what it left.
