@@ -20,7 +20,7 @@ impl Grade {
     pub fn new(list: &[u8]) -> Result<Grade, Refusal>
         ensures { Outcome (list_checks list.now) (λ g. items g.list ≡ list.now) result }
     {
-        if list.is_empty() {
+        if list.is_empty() || list.len() > 16 {
             return Err(Refusal::of(Stop::BadScale));
         }
         for (i, b) in list.iter().enumerate() {

@@ -4,6 +4,7 @@ use Rattle.std.specs.Map.{update}
 use Rattle.std.proofs.lemmas.Bool.{cases_lt}
 use Rattle.std.proofs.lemmas.List.{length-take-le}
 use Rattle.std.proofs.lemmas.Option.{none-some}
+use Rattle.rows.specs.Items.{items}
 use Rattle.blocks.specs.declared.line.Line.{Line}
 use Rattle.blocks.specs.Lines.{t_line, k_line}
 use Rattle.blocks.specs.Ranges.{Ranges, Stands}
@@ -71,30 +72,30 @@ module _ {M : Type 0} (step : M → Line → SinkStep M) (S : Sheet) (pr : Prope
       stops_over a c₃ = record { lines = t_line k ∷ a.lines; ends = run_out (conflict None a); told = a.told; same = refl }
 
       module _ (n : ℕ) (a : Analysed step S (slot_at (take c.filled area)) c.trail w (fed step f (t_line k)) (Some n) g' w' f₂) where
-        came : Came S (blocks_of S (length area) (state_of c area)) (learnt w' (trail_below c.trail.entries.items n))
-        came = conflict_sound S (length area) (state_of c area) good k a.lines (learnt w' (trail_below c.trail.entries.items n)) (conflict (Some n) a)
+        came : Came S (blocks_of S (length area) (state_of c area)) (learnt w' (trail_below (items c.trail.entries) n))
+        came = conflict_sound S (length area) (state_of c area) good k a.lines (learnt w' (trail_below (items c.trail.entries) n)) (conflict (Some n) a)
 
-        there : Stands S.last (region S.last (trail_below c.trail.entries.items n))
-        there = region_stands S.last (blocks_of S (length area) (state_of c area)) (trail_below c.trail.entries.items n) came.2
+        there : Stands S.last (region S.last (trail_below (items c.trail.entries) n))
+        there = region_stands S.last (blocks_of S (length area) (state_of c area)) (trail_below (items c.trail.entries) n) came.2
 
-        filled_reason : (j : ℕ) → IsReason (trail_below c.trail.entries.items n) (100 + j) → j < c.filled
+        filled_reason : (j : ℕ) → IsReason (trail_below (items c.trail.entries) n) (100 + j) → j < c.filled
         filled_reason j r =
-            let b = reason_known S.last (blocks_of S (length area) (state_of c area)) (trail_below c.trail.entries.items n) (100 + j) came.2 r in
+            let b = reason_known S.last (blocks_of S (length area) (state_of c area)) (trail_below (items c.trail.entries) n) (100 + j) came.2 r in
             elim (cases_lt j c.filled) [
               | inl l ↦ l
               | inr l ↦ absurd (none-some _ (sym (slot_take_past area c.filled j l) ∙ sym (block_at_slot S.rules (slot_at (take c.filled area)) j) ∙ b.1))
             ]
 
         -- the course, cut
-        module _ (c₂ : Course) (entries : c₂.trail.entries.items ≡ take n c.trail.entries.items) (reg : ranges c₂.region ≡ g') (fil : c₂.filled ≡ c.filled) (nex : c₂.next ≡ c.next) where
-          inside : n ≤ length c.trail.entries.items
+        module _ (c₂ : Course) (entries : (items c₂.trail.entries) ≡ take n (items c.trail.entries)) (reg : ranges c₂.region ≡ g') (fil : c₂.filled ≡ c.filled) (nex : c₂.next ≡ c.next) where
+          inside : n ≤ length (items c.trail.entries)
           inside = let q = a.left.0 in omega arith
 
-          len : length (take n c.trail.entries.items) ≡ n
-          len = length-take-le n c.trail.entries.items inside
+          len : length (take n (items c.trail.entries)) ≡ n
+          len = length-take-le n (items c.trail.entries) inside
 
-          cut : trail_of c₂.trail ≡ trail_below c.trail.entries.items n
-          cut = (λ i. trail_below (entries i) (length (entries i))) ∙ ap (trail_below (take n c.trail.entries.items)) len ∙ below_take c.trail.entries.items n n (omega arith) inside
+          cut : trail_of c₂.trail ≡ trail_below (items c.trail.entries) n
+          cut = (λ i. trail_below (entries i) (length (entries i))) ∙ ap (trail_below (take n (items c.trail.entries))) len ∙ below_take (items c.trail.entries) n n (omega arith) inside
 
           left : ranges c₂.region ≡ region S.last (trail_of c₂.trail)
           left = reg ∙ a.left.1 ∙ sym (ap (region S.last) cut)
@@ -105,21 +106,21 @@ module _ {M : Type 0} (step : M → Line → SinkStep M) (S : Sheet) (pr : Prope
               let here = reg ∙ a.left.1 in
               record {
                 kept = record {
-                  ends = subst (KeepsEnds S.last) (sym entries) (keeps_take S.last c.trail.entries.items n inside kp.ends);
+                  ends = subst (KeepsEnds S.last) (sym entries) (keeps_take S.last (items c.trail.entries) n inside kp.ends);
                   left = left;
                   room = kp.room;
                   filled = subst (λ (x : ℕ). x ≤ length area) (sym fil) kp.filled;
                   next = let q = kp.next in omega arith;
                   full = λ j l. kp.full j (omega arith);
                 };
-                forces = (came.3.0, subst (λ (g : Ranges). Forces S.last g w' came.3.0) (sym here) (covers_forces S.last (region S.last (trail_below c.trail.entries.items n)) there w' came.3.0 came.3.1 came.3.2));
+                forces = (came.3.0, subst (λ (g : Ranges). Forces S.last g w' came.3.0) (sym here) (covers_forces S.last (region S.last (trail_below (items c.trail.entries) n)) there w' came.3.0 came.3.1 came.3.2));
                 stands = (came.0, subst (Stands S.last) (sym here) there);
-                short = let q = a.left.0 in omega (arith, trail_192 S pr (length area) going.steps, length_below c.trail.entries.items (length c.trail.entries.items), ap length entries, len);
+                short = let q = a.left.0 in omega (arith, trail_192 S pr (length area) going.steps, length_below (items c.trail.entries) (length (items c.trail.entries)), ap length entries, len);
                 reasons = λ j r. let h = filled_reason j (subst (λ (t : List Entry). IsReason t (100 + j)) cut r) in omega arith;
               }
 
           -- what keeping the work block makes of it
-          moved : (c₃ : Course) (area₃ : List Slot) (f₃ : Feed M) (kin : KeepsIn step S w' c₂ area f₂ c₃ area₃ f₃) → ◌≡◌ {A = State} (record { trail = forced kin.bound (100 + kin.slot) ∷ trail_below c.trail.entries.items n; slots = update eqb (slot_at (take c.filled area)) kin.slot (Some w'); next = suc kin.slot }) (state_of c₃ area₃)
+          moved : (c₃ : Course) (area₃ : List Slot) (f₃ : Feed M) (kin : KeepsIn step S w' c₂ area f₂ c₃ area₃ f₃) → ◌≡◌ {A = State} (record { trail = forced kin.bound (100 + kin.slot) ∷ trail_below (items c.trail.entries) n; slots = update eqb (slot_at (take c.filled area)) kin.slot (Some w'); next = suc kin.slot }) (state_of c₃ area₃)
           moved c₃ area₃ f₃ kin =
               let e = kin.trail ∙ ap (λ (t : List Entry). forced kin.bound (100 + kin.slot) ∷ t) cut in
               let d = kin.slots ∙ ap (λ (x : ℕ). update eqb (slot_at (take x area)) kin.slot (Some w')) fil in

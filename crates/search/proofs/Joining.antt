@@ -1,6 +1,7 @@
 -- A bound joins the trail.
 use Rattle.std.proofs.Common.{◌≡◌, ℕ, suc, ◌<◌, List, [], ◌∷◌, ◌++◌, length, get_or, Some, None, IsSome, Option, sym, refl, ap, ◌∙◌, subst, ⊎_elim, arith, below_more, length-append}
 use Rattle.std.proofs.lemmas.List.{get_or_append_left, get_or_push}
+use Rattle.rows.specs.Items.{items}
 use Rattle.blocks.specs.declared.bound.Bound.{Bound}
 use Rattle.blocks.specs.declared.bound.Bound.TheVariants.{AtMost, AtLeast}
 use Rattle.blocks.specs.declared.status.Status.{Status}
@@ -45,36 +46,36 @@ module _ (last : ℕ → ℕ) (c c' : Course) (β : Bound) (r : Reason) (j : Joi
   abbrev new : TrailEntry
   new = record { bound = β; end = end β (ranges c.region); reason = r }
 
-  longer : length (c.trail.entries.items ++ new ∷ []) ≡ suc (length c.trail.entries.items)
-  longer = omega (arith, length-append c.trail.entries.items (new ∷ []))
+  longer : length ((items c.trail.entries) ++ new ∷ []) ≡ suc (length (items c.trail.entries))
+  longer = omega (arith, length-append (items c.trail.entries) (new ∷ []))
 
-  here : get_or (c.trail.entries.items ++ new ∷ []) (length c.trail.entries.items) no_entry ≡ new
-  here = get_or_push c.trail.entries.items new no_entry (length c.trail.entries.items) refl
+  here : get_or ((items c.trail.entries) ++ new ∷ []) (length (items c.trail.entries)) no_entry ≡ new
+  here = get_or_push (items c.trail.entries) new no_entry (length (items c.trail.entries)) refl
 
   pub joined_trail : trail_of c'.trail ≡ reasoned β r ∷ trail_of c.trail
   joined_trail =
       ap (λ (ys : List TrailEntry). trail_below ys (length ys)) j.entries
-      ∙ ap (trail_below (c.trail.entries.items ++ new ∷ [])) longer
-      ∙ (λ i. entry_of (here i) ∷ below_front c.trail.entries.items (new ∷ []) (length c.trail.entries.items) (omega arith) i)
+      ∙ ap (trail_below ((items c.trail.entries) ++ new ∷ [])) longer
+      ∙ (λ i. entry_of (here i) ∷ below_front (items c.trail.entries) (new ∷ []) (length (items c.trail.entries)) (omega arith) i)
 
   pub joined_left : ranges c'.region ≡ region last (trail_of c'.trail)
   joined_left =
       j.region ∙ ap (narrow β) left
       ∙ sym (ap (region last) joined_trail ∙ ap (λ (γ : Bound). narrow γ (region last (trail_of c.trail))) (reasoned_bound β r))
 
-  pub joined_ends : KeepsEnds last c.trail.entries.items → KeepsEnds last c'.trail.entries.items
-  joined_ends ends = subst (KeepsEnds last) (sym j.entries) (λ k l. below_more KeptAt (length c.trail.entries.items) old now' k (omega (arith, longer)))
+  pub joined_ends : KeepsEnds last (items c.trail.entries) → KeepsEnds last (items c'.trail.entries)
+  joined_ends ends = subst (KeepsEnds last) (sym j.entries) (λ k l. below_more KeptAt (length (items c.trail.entries)) old now' k (omega (arith, longer)))
     where
       KeptAt : ℕ → Type 0
-      KeptAt k = (get_or (c.trail.entries.items ++ new ∷ []) k no_entry).end ≡ end (get_or (c.trail.entries.items ++ new ∷ []) k no_entry).bound (region last (trail_below (c.trail.entries.items ++ new ∷ []) k))
+      KeptAt k = (get_or ((items c.trail.entries) ++ new ∷ []) k no_entry).end ≡ end (get_or ((items c.trail.entries) ++ new ∷ []) k no_entry).bound (region last (trail_below ((items c.trail.entries) ++ new ∷ []) k))
 
-      old : (k : ℕ) → k < length c.trail.entries.items → KeptAt k
+      old : (k : ℕ) → k < length (items c.trail.entries) → KeptAt k
       old k l =
-          let a = get_or_append_left c.trail.entries.items (new ∷ []) no_entry k l in
-          let b = below_front c.trail.entries.items (new ∷ []) k (omega arith) in
+          let a = get_or_append_left (items c.trail.entries) (new ∷ []) no_entry k l in
+          let b = below_front (items c.trail.entries) (new ∷ []) k (omega arith) in
           ap (λ (e : TrailEntry). e.end) a ∙ ends k l ∙ sym (λ i. end (a i).bound (region last (b i)))
 
-      now' : KeptAt (length c.trail.entries.items)
+      now' : KeptAt (length (items c.trail.entries))
       now' =
-          let b = below_front c.trail.entries.items (new ∷ []) (length c.trail.entries.items) (omega arith) in
+          let b = below_front (items c.trail.entries) (new ∷ []) (length (items c.trail.entries)) (omega arith) in
           ap (λ (e : TrailEntry). e.end) here ∙ ap (end β) left ∙ sym (λ i. end (here i).bound (region last (b i)))

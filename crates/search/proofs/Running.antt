@@ -2,6 +2,7 @@
 use Rattle.std.proofs.Common.{◌≡◌, ℕ, ◌<◌, ◌≤◌, List, [], ◌++◌, length, take, Some, None, Option, sym, refl, ap, ◌∙◌, subst, inl, inr, arith, MatchOption}
 use Rattle.std.specs.List.{slice_get}
 use Rattle.std.proofs.lemmas.Bool.{cases_lt}
+use Rattle.rows.specs.Items.{items}
 use Rattle.blocks.specs.declared.line.Line.{Line}
 use Rattle.blocks.specs.Ranges.{Ranges, everything}
 use Rattle.blocks.specs.Sheets.{Sheet, Proper}
@@ -30,7 +31,7 @@ module _ {M : Type 0} (step : M → Line → SinkStep M) (S : Sheet) (pr : Prope
     pub whole : length area ≡ length area₀
     pub untouched : (j : ℕ) → c.filled ≤ j → slice_get area j ≡ slice_get area₀ j
 
-  pub starts : (c : Course) → c.trail.entries.items ≡ [] → ranges c.region ≡ everything S.last → c.filled ≡ 0 → c.next ≡ 0 → length area₀ ≤ 4096 → UnderWay c area₀ f₀
+  pub starts : (c : Course) → (items c.trail.entries) ≡ [] → ranges c.region ≡ everything S.last → c.filled ≡ 0 → c.next ≡ 0 → length area₀ ≤ 4096 → UnderWay c area₀ f₀
   starts c none reg fil nex room = record {
     going = record {
       kept = record {

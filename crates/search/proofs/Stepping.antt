@@ -2,6 +2,7 @@
 use Rattle.std.proofs.Common.{◌≡◌, ℕ, ◌+◌, ◌-◌, ◌<◌, ◌≤◌, List, [], ◌∷◌, length, take, Some, None, Option, sym, refl, ◌∙◌, subst, inl, inr, arith}
 use Rattle.std.proofs.lemmas.Bool.{cases_lt, le-ltb}
 use Rattle.std.proofs.lemmas.Option.{none-some}
+use Rattle.rows.specs.Items.{items}
 use Rattle.blocks.specs.declared.bound.Bound.{Bound}
 use Rattle.blocks.specs.declared.line.Line.{Line}
 use Rattle.blocks.specs.Ranges.{Ranges, Stands}
@@ -50,8 +51,8 @@ module _ (S : Sheet) (pr : Proper S) (c : Course) (area : List Slot) (going : Go
   past k l b e = none-some _ (sym (slot_take_past area c.filled (k - 100) (omega arith)) ∙ rw (le-ltb k 100 (omega arith)) at e)
 
   -- a step that lets an entry join leaves it room
-  pub room_for : (e : Entry) (ls : List Line) (slots : ℕ → Option Ranges) (next : ℕ) → Step S (length area) (state_of c area) ls (record { trail = e ∷ trail_of c.trail; slots = slots; next = next }) → length c.trail.entries.items < 192
-  room_for e ls slots next p = omega (arith, trail_192 S pr (length area) (on going.steps p), length_below c.trail.entries.items (length c.trail.entries.items))
+  pub room_for : (e : Entry) (ls : List Line) (slots : ℕ → Option Ranges) (next : ℕ) → Step S (length area) (state_of c area) ls (record { trail = e ∷ trail_of c.trail; slots = slots; next = next }) → length (items c.trail.entries) < 192
+  room_for e ls slots next p = omega (arith, trail_192 S pr (length area) (on going.steps p), length_below (items c.trail.entries) (length (items c.trail.entries)))
 
   -- the blocks of the state, and the region that the trail leaves
   abbrev at : ℕ → Option Ranges

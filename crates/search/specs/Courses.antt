@@ -1,5 +1,6 @@
 -- Where a search of the program stands, as the relation has it.
 use Rattle.std.specs.Prelude.{◌≡◌, ℕ, List, [], ◌∷◌, ◌++◌, take, None}
+use Rattle.rows.specs.Items.{items}
 use Rattle.blocks.specs.declared.bound.Bound.{Bound}
 use Rattle.blocks.specs.declared.status.Status.TheVariants.{Open as undecided}
 use Rattle.blocks.specs.Ranges.{Ranges, Stands, end, narrow}
@@ -16,7 +17,7 @@ state_of c area = record { trail = trail_of c.trail; slots = slot_at (take c.fil
 
 -- a bound joins the trail with its reason, and the region is narrowed
 pub record Joined (before : Course) (β : Bound) (r : Reason) (after : Course) : Type 0 where
-  pub entries : after.trail.entries.items ≡ before.trail.entries.items ++ (record { bound = β; end = end β (ranges before.region); reason = r }) ∷ []
+  pub entries : items after.trail.entries ≡ items before.trail.entries ++ (record { bound = β; end = end β (ranges before.region); reason = r }) ∷ []
   pub region : ranges after.region ≡ narrow β (ranges before.region)
   pub filled : after.filled ≡ before.filled
   pub next : after.next ≡ before.next

@@ -2,6 +2,7 @@
 use Rattle.std.specs.Prelude.{◌≡◌, ℕ, suc, ◌+◌, ◌<◌, ◌≤◌, List, ◌∷◌, length, take, Bool, Some, None, Option, nat_eq}
 use Rattle.std.specs.List.{slice_get}
 use Rattle.std.specs.Map.{update}
+use Rattle.rows.specs.Items.{items}
 use Rattle.blocks.specs.declared.line.Line.{Line}
 use Rattle.blocks.specs.declared.bound.Bound.{Bound}
 use Rattle.blocks.specs.Lines.{k_line}
@@ -25,7 +26,7 @@ use Rattle.search.specs.Analyses.{Ready, Analysed, stopped_at}
 -- how a course stands to its area: the region is what the trail leaves, each entry keeps its end, the filled slots are the
 -- first ones, and the round goes on among them or right behind
 pub record Kept (last : ℕ → ℕ) (c : Course) (area : List Slot) : Type 0 where
-  pub ends : KeepsEnds last c.trail.entries.items
+  pub ends : KeepsEnds last (items c.trail.entries)
   pub left : ranges c.region ≡ region last (trail_of c.trail)
   pub room : length area ≤ 4096
   pub filled : c.filled ≤ length area
@@ -76,7 +77,7 @@ pub record Learnt (S : Sheet) (w : Ranges) (c : Course) (area : List Slot) : Typ
   pub kept : Kept S.last c area
   pub forces : (β : Bound) × Forces S.last (ranges c.region) w β
   pub stands : Stands S.last w × Stands S.last (ranges c.region)
-  pub short : length c.trail.entries.items < 192
+  pub short : length (items c.trail.entries) < 192
   -- a reason is a rule or a filled slot
   pub reasons : (j : ℕ) → IsReason (trail_of c.trail) (100 + j) → j < c.filled
 
@@ -122,7 +123,7 @@ module _ {K : Type 0} where
   -- its last entries are taken, and the region goes back with them; besides, its sink alone has changed, and the tally with it
   pub record OnlyUndone {L : Type 0} (lent : K → L) (old new : Search K) : Type 0 where
     pub within : SameWithin lent old new
-    pub entries : new.course.trail.entries.items ≡ take (length new.course.trail.entries.items) old.course.trail.entries.items
+    pub entries : items new.course.trail.entries ≡ take (length (items new.course.trail.entries)) (items old.course.trail.entries)
     pub filled : new.course.filled ≡ old.course.filled
     pub next : new.course.next ≡ old.course.next
     pub slots : new.area.now ≡ old.area.now

@@ -1,5 +1,6 @@
 -- The trail of the program, as the relation has it.
 use Rattle.std.specs.Prelude.{◌≡◌, ℕ, zero, suc, ◌+◌, ◌<◌, ◌≤◌, List, [], ◌∷◌, length, Some, None, Option, slice_index_or}
+use Rattle.rows.specs.Items.{items}
 use Rattle.blocks.specs.declared.bound.Bound.{Bound}
 use Rattle.blocks.specs.declared.bound.Bound.TheVariants.{AtMost}
 use Rattle.blocks.specs.Ranges.{end}
@@ -28,7 +29,7 @@ trail_below xs zero = []
 trail_below xs (suc n) = entry_of (slice_index_or xs n no_entry) ∷ trail_below xs n
 
 abbrev pub trail_of : Trail → List Entry
-trail_of t = trail_below t.entries.items (length t.entries.items)
+trail_of t = trail_below (items t.entries) (length (items t.entries))
 
 -- slot j is the first from one on, and below another, that is no entry's reason
 pub record FirstFree (t : List Entry) (from to j : ℕ) : Type 0 where

@@ -1,8 +1,9 @@
 ghost use Rattle.std.specs.Prelude.{◌≡◌, []};
+ghost use Rattle.rows.specs.Items.{items};
 ghost use Rattle.search.specs.Trails.{no_entry};
 
-use arrayvec::ArrayVec;
 use blocks::bound::Bound;
+use rows::row::Row;
 
 pub mod reasons;
 
@@ -32,18 +33,18 @@ impl Default for TrailEntry {
 }
 
 // The entries so far, the last one last. A sheet has at most 192 bounds, and a trail each at most once.
-#[derive(Drop)]
+#[derive(Clone, Copy)]
 pub struct Trail {
-    pub(crate) entries: ArrayVec<TrailEntry, 192>,
+    pub(crate) entries: Row<TrailEntry, 192>,
 }
 
 impl Trail {
     // No entry.
     pub(crate) fn new() -> Trail
-        ensures { result.entries.items ≡ [] }
+        ensures { items result.entries ≡ [] }
     {
         Trail {
-            entries: ArrayVec::new(),
+            entries: Row::new(TrailEntry::default()),
         }
     }
 }

@@ -1,5 +1,5 @@
 ghost use Rattle.std.specs.Prelude.{◌≡◌, ◌<◌, [], length, MatchResult};
-ghost use Rattle.rows.specs.Items.{items, Pushed};
+ghost use Rattle.rows.specs.Items.{items, Pushed, Popped};
 
 use crate::row::{Full, Row};
 
@@ -51,5 +51,14 @@ impl<T: Copy, const N: usize> Row<T, N> {
         self.room[self.len] = item;
         self.len += 1;
         Ok(())
+    }
+
+    // The last item is taken out; None where there is none.
+    pub fn pop(&mut self) -> Option<T>
+        ensures { Popped self.old self.new result }
+    {
+        let last = self.len.checked_sub(1)?;
+        self.len = last;
+        Some(self.room[last])
     }
 }

@@ -1,5 +1,5 @@
-ghost use Rattle.std.specs.Prelude.{◌≡◌, ℕ, ◌<◌};
-ghost use Rattle.arrayvec.specs.ArrayVec.{array_vec_len};
+ghost use Rattle.std.specs.Prelude.{◌≡◌, ℕ, ◌<◌, length};
+ghost use Rattle.rows.specs.Items.{items};
 ghost use Rattle.blocks.specs.Bounds.{Profile, Meets};
 ghost use Rattle.blocks.specs.Ranges.{In, end};
 ghost use Rattle.blocks.specs.Views.{ranges};
@@ -23,11 +23,12 @@ fn end_of(region: &Block, bound: Bound) -> u32
 impl Course {
     // A bound that some profile of the region meets joins the trail and narrows the region.
     pub(crate) fn join(&mut self, bound: Bound, reason: Reason)
-        requires { (array_vec_len self.old.trail.entries < 192) × ((x : Profile) × In (ranges self.old.region) x × Meets x bound) }
+        requires { (length (items self.old.trail.entries) < 192) × ((x : Profile) × In (ranges self.old.region) x × Meets x bound) }
         ensures { Joined self.old bound reason self.new }
     {
         let end = end_of(&self.region, bound);
         self.region = self.region.narrow(bound).unwrap();
-        self.trail.entries.push(TrailEntry { bound, end, reason });
+        let entry = TrailEntry { bound, end, reason };
+        self.trail.entries.push(entry).unwrap();
     }
 }

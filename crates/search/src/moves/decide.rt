@@ -1,6 +1,6 @@
-ghost use Rattle.std.specs.Prelude.{◌<◌};
-ghost use Rattle.arrayvec.specs.ArrayVec.{array_vec_len};
+ghost use Rattle.std.specs.Prelude.{◌<◌, length};
 ghost use Rattle.blocks.specs.Views.{ranges};
+ghost use Rattle.rows.specs.Items.{items};
 ghost use Rattle.search.specs.Courses.{Undecided, DecidedOn};
 
 use crate::course::Course;
@@ -10,7 +10,7 @@ use blocks::bound::Bound;
 impl Course {
     // The first open bound of a block joins the trail as decided.
     pub(super) fn decide(&mut self, block: &Block)
-        requires { (array_vec_len self.old.trail.entries < 192) × Undecided (ranges block.now) (ranges self.old.region) }
+        requires { (length (items self.old.trail.entries) < 192) × Undecided (ranges block.now) (ranges self.old.region) }
         ensures { DecidedOn (ranges block.now) self.old self.new }
     {
         let bound = block.first_open(&self.region).unwrap();

@@ -9,7 +9,10 @@ impl Trail {
     pub fn has_reason(&self, block: usize) -> bool
         ensures { MatchBool result (IsReason (trail_of self.now) block) (IsReason (trail_of self.now) block → ⊥) }
     {
-        self.entries.iter().any(|entry| entry.reason == Some(block))
+        self.entries
+            .as_slice()
+            .iter()
+            .any(|entry| entry.reason == Some(block))
     }
 
     // The first slot from one on, and below another, that is no entry's reason; None where all are.

@@ -1,4 +1,5 @@
 use Rattle.std.proofs.Common.{length, take}
+use Rattle.rows.specs.Items.{items}
 use Rattle.blocks.specs.Problems.{posed}
 use Rattle.blocks.specs.Slots.{slot_at}
 use Rattle.blocks.specs.Views.{ranges}
@@ -11,8 +12,8 @@ abbrev pub invariant-loop-entry : goal.invariant-loop-entry
 invariant-loop-entry g l =
     let s = l.initial.self in
     Midway g.K.Sink.step (posed s.problem) (problem_proper s.problem) (slot_at (take s.course.filled s.area.now)) s.course.trail (ranges l.initial.work) (feed_in g.K.Sink.model s)
-    (length l.self.course.trail.entries.items) (ranges l.self.course.region) (ranges l.work) (feed_in g.K.Sink.model l.self)
+    (length (items l.self.course.trail.entries)) (ranges l.self.course.region) (ranges l.work) (feed_in g.K.Sink.model l.self)
     × OnlyUndone g.K.Sink.lent s l.self
 
 abbrev pub decreases-loop-entry : goal.decreases-loop-entry
-decreases-loop-entry g l = length l.self.course.trail.entries.items
+decreases-loop-entry g l = length (items l.self.course.trail.entries)

@@ -1,5 +1,6 @@
 use Rattle.std.proofs.Common.{◌≡◌, ℕ, List, length, take, Some, None, Option, sym, refl, ap, ap₂, ◌∙◌, subst, subst₂}
 use Rattle.std.specs.Option.{option_map}
+use Rattle.rows.specs.Items.{items}
 use Rattle.blocks.specs.declared.line.Line.TheVariants.{Take}
 use Rattle.blocks.specs.declared.problem.Problem.{Problem}
 use Rattle.blocks.specs.Lines.{t_line}
@@ -45,7 +46,7 @@ keep-requires g c =
     let w = ranges c.unwrap-work.result in
     let w' = ranges c.analyse.new.work in
     let c₂ = c.analyse.new.self.course in
-    let n = length c₂.trail.entries.items in
+    let n = length (items c₂.trail.entries) in
     let o = c.if-not-analyse.ensures.kept in
     let sent : feed c.send.new.self (g.K.Sink.model c.send.new.sink) ≡ fed step f (t_line c.args.number) = c.send.ensures.after ∙ ap (λ b. fed step f (Take b)) c.stopping.ensures in
     let did = subst (λ (x : Feed _). Analysed step S (slot_at (take s.course.filled s.area.now)) s.course.trail w x (Some n) g' w' f₂) sent c.if-not-analyse.ensures.did in
@@ -66,7 +67,7 @@ returns-clause-moved g c =
     let w = ranges c.unwrap-work.result in
     let w' = ranges c.analyse.new.work in
     let c₂ = c.analyse.new.self.course in
-    let n = length c₂.trail.entries.items in
+    let n = length (items c₂.trail.entries) in
     let o = c.if-not-analyse.ensures.kept in
     let sent : feed c.send.new.self (g.K.Sink.model c.send.new.sink) ≡ fed step f (t_line c.args.number) = c.send.ensures.after ∙ ap (λ b. fed step f (Take b)) c.stopping.ensures in
     let did = subst (λ (x : Feed _). Analysed step S (slot_at (take s.course.filled s.area.now)) s.course.trail w x (Some n) g' w' f₂) sent c.if-not-analyse.ensures.did in

@@ -1,6 +1,7 @@
 use Rattle.std.proofs.Common.{◌≡◌, ℕ, ◌<◌, true, false, Bool, List, length, MatchBool, Some, ◌∙◌, arith, rules, tests}
 use Rattle.std.specs.List.{HoldsAt, AllWithin}
 use Rattle.std.proofs.lemmas.Iterator.{cases_from_any, YieldsList-from_slice}
+use Rattle.rows.specs.Items.{items}
 use Rattle.search.specs.declared.trail.TrailEntry.{TrailEntry}
 use Rattle.search.specs.Search.{IsReason}
 use Rattle.search.specs.Trails.{no_entry, trail_below}
@@ -15,5 +16,5 @@ told false xs k h = no_reason xs k (length xs) (λ i l. h i no_entry (omega arit
 
 pub returns : goal.returns
 returns c =
-    told c.any.result c.args.self.now.entries.items c.args.block
-    (cases_from_any _ _ _ (λ (e : TrailEntry). e.reason ≡ Some c.args.block) (λ (e : TrailEntry). e.reason ≡ Some c.args.block → ⊥) c.any.ensures.ran (YieldsList-from_slice c.args.self.now.entries.items (c.iter.ensures.rest ∙ c.deref.ensures.0)) (λ x q k. search (rules, tests)) (λ x q k. search (rules, tests)))
+    told c.any.result (items c.args.self.now.entries) c.args.block
+    (cases_from_any _ _ _ (λ (e : TrailEntry). e.reason ≡ Some c.args.block) (λ (e : TrailEntry). e.reason ≡ Some c.args.block → ⊥) c.any.ensures.ran (YieldsList-from_slice (items c.args.self.now.entries) (c.iter.ensures.rest ∙ c.as_slice.ensures)) (λ x q k. search (rules, tests)) (λ x q k. search (rules, tests)))
