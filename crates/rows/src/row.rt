@@ -6,8 +6,8 @@ pub mod items;
 
 // The items so far, in order: the first len of the room. What lies behind them is not read.
 //
-// No heap is taken. The library's ArrayVec is no Copy, which grades and rule sets are, and asks its items
-// for a default. No Model: that of a Copy type has to give all fields back.
+// No heap is taken. The library's ArrayVec is no Copy, which grades, rule sets and trails are, and asks
+// its items for a default. No Model: that of a Copy type has to give all fields back.
 pub struct Row<T, const N: usize> {
     room: [T; N],
     len: usize,
